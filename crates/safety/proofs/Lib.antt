@@ -1,0 +1,17 @@
+pub mod Votes
+pub mod Agreement
+pub mod Meeting
+pub mod Counting
+pub mod Single
+pub mod Keeps
+pub mod Moves
+pub mod Chosen
+pub mod Outcomes
+pub mod Following
+pub mod Timeouts
+pub mod Events
+pub mod Reached
+pub mod Bundles
+pub mod Certain
+pub mod Lone
+pub mod Stands
