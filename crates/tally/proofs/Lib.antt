@@ -1,0 +1,9 @@
+pub mod Written
+pub mod Here
+pub mod Index
+pub mod Heard
+pub mod Counting
+pub mod Majority
+pub mod OneChosen
+pub mod Certain
+pub mod Best

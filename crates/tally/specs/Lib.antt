@@ -1,0 +1,4 @@
+pub mod Layout
+pub mod Votes
+pub mod Proposals
+pub mod Blocks

@@ -1,0 +1,10 @@
+pub mod Sized
+pub mod Fields
+pub mod Writing
+pub mod EventIn
+pub mod AnswerIn
+pub mod FieldsBack
+pub mod EventsBack
+pub mod EventsPlace
+pub mod AnswersBack
+pub mod AnswersSpelled
