@@ -5,6 +5,9 @@ use mathlib.Core.List.{List, [], _∷_}
 use Prim.Native.Nat.{ℕ, _≤_, _<_}
 use native.Mathlib.Omega.{arith}
 use lib.ListN.{length, getD}
+use Rattle.std.specs.Options.{Cases}
+use Rattle.std.specs.declared.option.Option.{Option}
+use Rattle.std.specs.declared.option.Option.the-variants.{Some, None}
 use Rattle.protocol.specs.Vote.{Limits}
 use Rattle.protocol.specs.Member.{Member, Event, Answer, unreadable, refused, is-event, place, refusal, answer, after}
 use Rattle.protocol.specs.Programs.{member-after, all-words}
@@ -17,7 +20,7 @@ use Rattle.tally.specs.Blocks.{blocks-in}
 use Rattle.wire.specs.declared.answers.Answer as code-answer
 use Rattle.wire.specs.Meaning.{answer-of}
 use Rattle.member.specs.Answered.{Carries, Answered}
-use Rattle.member.specs.Calls.{taking-all, Kept, Called}
+use Rattle.member.specs.Calls.{taking-all, Kept, Called, Not-open, Looks}
 use Rattle.member.specs.Events.{Lone}
 use Rattle.member.specs.Header.{Header}
 use Rattle.member.specs.Parts.{part, of-votes, of-proposals, of-blocks, of-rest}
@@ -35,7 +38,7 @@ module _ (mem : List ℕ) (x y : code.Member) (hx : Header mem x) (hy : Header m
       let blocks : x .limits .blocks ≡ y .limits .blocks = sym (hx .asks .blocks) ∙ hy .asks .blocks in
       λ i. record { takes = all; members = members i; periods = periods i; steps = steps i; blocks = blocks i }
 
-  loaded : (m : Member) → Stands y mem m → Stands x mem m
+  pub loaded : (m : Member) → Stands y mem m → Stands x mem m
   loaded m h = record
       { me = sym (hx .me) ∙ hy .me ∙ h .me
       ; period = sym (hx .place .period) ∙ hy .place .period ∙ h .period
@@ -131,3 +134,11 @@ called-unreadable mem n = record
     ; rest = λ l i es k. refl
     ; long = refl
     ; words = λ h. h }
+
+-- what is seen of it
+pub looks : (mem : List ℕ) (x : code.Member) → Header mem x → Looks mem x
+looks mem x hx l i es k = loaded mem x (k .carries .member) hx (k .carries .header) (member-after l i es) (k .carries .stands)
+
+pub looks-at : (mem : List ℕ) (o : Option code.Member) → Cases o (Not-open mem) (λ x. Header mem x) → Cases o (Not-open mem) (λ x. Looks mem x)
+looks-at mem None h = h
+looks-at mem (Some x) h = looks mem x h

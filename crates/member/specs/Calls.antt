@@ -1,13 +1,15 @@
 -- What opening a member and calling it do: the two definitions by which a caller knows them. Assumes nothing.
 use mathlib.Core.Path.{_≡_}
-use mathlib.Core.Bool.{Bool, true}
+use mathlib.Core.Bool.{Bool, true, _&&_}
 use mathlib.Core.List.{List, [], _∷_}
 use Prim.Native.Nat.{ℕ, _≤_, _<_}
+use lib.Dec.{eqb}
 use lib.ListN.{length}
 use Rattle.std.specs.declared.option.Option.the-variants.{Some, None}
 use Rattle.std.specs.declared.result.Result.{Result}
 use Rattle.std.specs.declared.result.Result.the-variants.{Ok, Err}
 use Rattle.protocol.specs.Vote as protocol
+use Rattle.protocol.specs.Vote.{is-vote-in}
 use Rattle.protocol.specs.Member.{Event, Answer, refusal, answer}
 use Rattle.protocol.specs.Programs.{member-after, memory-size, all-words}
 use Rattle.protocol.specs.Promises.{all}
@@ -17,7 +19,9 @@ use Rattle.wire.specs.declared.answers.Answer as code
 use Rattle.wire.specs.Meaning.{answer-of}
 use Rattle.member.specs.Answered.{Carries}
 use Rattle.member.specs.Header.{Header}
+use Rattle.member.specs.Moves.{Of-member}
 use Rattle.member.specs.Parts.{part, of-rest}
+use Rattle.member.specs.Stands.{Stands}
 use Rattle.member.specs.declared.calls.OpenError.{OpenError}
 use Rattle.member.specs.declared.calls.OpenError.the-variants.{OutOfRange, NotMember, TooShort}
 use Rattle.member.specs.declared.calls.NotOpen.{NotOpen}
@@ -50,6 +54,18 @@ pub record Called (mem : List ℕ) (e : Event) (new : List ℕ) (a : Answer) : T
 -- no member is held
 abbrev pub Not-open : List ℕ → Type 0
 Not-open mem = (x : Member) → Header mem x → ⊥
+
+-- what is to be seen of a member by value is what the definitions make of the events that the memory holds
+abbrev pub Looks : List ℕ → Member → Type 0
+Looks mem x = (l : protocol.Limits) (i : ℕ) (es : List Event) → Kept l i es mem → Stands x mem (member-after l i es)
+
+-- a vote that a member said: it is in its own name, and it heard it
+abbrev pub Said-it : protocol.Vote → Of-member → Bool
+Said-it v m = eqb (v .from) (m .me) && is-vote-in v (m .votes)
+
+abbrev pub By-said : List ℕ → protocol.Vote → Result Bool NotOpen → Type 0
+By-said mem v (Ok b) = (l : protocol.Limits) (i : ℕ) (es : List Event) → Kept l i es mem → b ≡ Said-it v (member-after l i es)
+By-said mem v (Err n) = Not-open mem
 
 abbrev pub By-call : List ℕ → Event → List ℕ → Result code.Answer NotOpen → Type 0
 By-call mem e new (Ok a) = Called mem e new (answer-of a)

@@ -5,6 +5,7 @@ mod calls;
 mod checks;
 mod events;
 mod header;
+mod looks;
 mod moves;
 mod opening;
 mod parts;
@@ -14,6 +15,8 @@ mod timeouts;
 
 pub use calls::NotOpen;
 pub use calls::OpenError;
+pub use looks::look;
+pub use looks::said;
 pub use opening::call;
 pub use opening::open;
 pub use promises::enough_memory_stands;

@@ -4,7 +4,7 @@ ghost use mathlib.Core.Bool.{true, false};
 ghost use mathlib.Core.List.{_∷_};
 ghost use Prim.Native.Nat.{_<_, _≤_};
 ghost use lib.ListN.{length};
-ghost use Rattle.protocol.specs.Vote.{slot-taken, has-quorum};
+ghost use Rattle.protocol.specs.Vote.{slot-taken, is-vote-in, has-quorum};
 ghost use Rattle.protocol.specs.Member.{vote-in-range, is-in, chosen-in, proposed, keep-best, add-block};
 ghost use Rattle.protocol.specs.Programs.{memory-size};
 ghost use Rattle.protocol.specs.Promises.{all};
@@ -22,6 +22,7 @@ use tally::add_block;
 use tally::certified;
 use tally::chosen;
 use tally::has_block;
+use tally::has_heard;
 use tally::has_quorum;
 use tally::hear;
 use tally::keep;
@@ -57,6 +58,16 @@ pub(crate) fn is_taken(memory: &[u64], limits: Limits, vote: Vote) -> bool
         r ≡ slot-taken (vote-of vote) vs) ⌝ }
 {
     taken(&memory[64..votes_end(limits)], limits, vote)
+}
+
+// Was this very vote heard?
+pub(crate) fn is_heard(memory: &[u64], limits: Limits, vote: Vote) -> bool
+    requires long { ⌜ memory-size (limits-of all limits) ≤ length (now memory) ⌝ }
+    requires vote { ⌜ vote-in-range (limits-of all limits) (vote-of vote) ≡ true ⌝ }
+    ensures is { λ r. ⌜ ((vs : Votes) → Holds (limits-of all limits) (part of-votes (limits-of all limits) (now (memory .entry))) vs →
+        r ≡ is-vote-in (vote-of vote) vs) ⌝ }
+{
+    has_heard(&memory[64..votes_end(limits)], limits, vote)
 }
 
 // Is there a quorum of votes such as this?
