@@ -23,12 +23,12 @@ within most n = leb 1 n && leb n most
 abbrev pub first-bad : ℕ → ℕ → ℕ → ℕ → Option Limit
 first-bad members periods steps blocks =
     cond (within 64 members)
-        (cond (within 32 periods)
-            (cond (within 8 steps)
-                (cond (within 256 blocks) None (Some Blocks))
-                (Some Steps))
-            (Some Periods))
-        (Some Members)
+    (cond (within 32 periods)
+    (cond (within 8 steps)
+    (cond (within 256 blocks) None (Some Blocks))
+    (Some Steps))
+    (Some Periods))
+    (Some Members)
 
 -- limits are made of the numbers given; or the first of these that is out of range is named
 abbrev pub Made : ℕ → ℕ → ℕ → ℕ → Result Limits Limit → Type 0

@@ -25,7 +25,12 @@ impl Limits {
         if blocks < 1 || blocks > 256 {
             return Err(Limit::Blocks);
         }
-        Ok(Limits { members, periods, steps, blocks })
+        Ok(Limits {
+            members,
+            periods,
+            steps,
+            blocks,
+        })
     }
 
     // How many members are a quorum.
@@ -39,7 +44,8 @@ impl Limits {
     pub fn memory(self) -> u64
         ensures is { λ r. ⌜ r ≡ memory-size (limits-of all self) ⌝ }
     {
-        8 * (self.members * (self.periods * (2 * self.steps + 2))) + (8 * self.periods + (4 * self.blocks + 64))
+        8 * (self.members * (self.periods * (2 * self.steps + 2)))
+            + (8 * self.periods + (4 * self.blocks + 64))
     }
 
     // The same in bytes.

@@ -57,7 +57,7 @@ module _ (l : Limits) (v : Vote) (m : Member) where
   by-agrees none kind quorum block =
       cond-false (is-some (m .agreed)) m (agree-on (certified-in l (v ∷ []) (m .votes) (m .blocks)) m) none
       ∙ ap (λ (xs : List ℕ). agree-on xs m)
-          (cond-true certifies (v .value ∷ []) [] (and-from _ _ (eq-eqb (v .kind) cert kind) (and-from _ _ quorum block)))
+      (cond-true certifies (v .value ∷ []) [] (and-from _ _ (eq-eqb (v .kind) cert kind) (and-from _ _ quorum block)))
 
 -- a quorum for a cert vote in range is one of its slot
 pub cert-quorum : (l : Limits) (v : Vote) (vs : List Vote) → vote-in-range l v ≡ true → v .kind ≡ cert →

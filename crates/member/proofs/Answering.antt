@@ -35,7 +35,7 @@ module _ (l : Limits) (a b : List ℕ) (only : Only 0 64 a b) (long : length b �
   behind : (n : ℕ) → 64 ≤ n → drop n b ≡ drop n a
   behind n h =
       same-lists (drop n b) (drop n a) (simp length-drop (ap (λ (k : ℕ). k - n) long))
-          (λ k d low. same-at k d low)
+      (λ k d low. same-at k d low)
     where
       same-at : (k d : ℕ) → k < length (drop n b) → getD (drop n b) k d ≡ getD (drop n a) k d
       same-at k d low =
@@ -57,23 +57,26 @@ module _ (a b : List ℕ) (x : code.Member) (l : Limits) (same : part of-header 
       sym (getD-take 64 b i 0 h) ∙ ap (λ (xs : List ℕ). getD xs i 0) same ∙ getD-take 64 a i 0 h
 
   pub header-kept : Header a x → Header b x
-  header-kept h = record
-      { asks = record
-          { marked = number-same 0 (omega arith) ∙ h .asks .marked
-          ; members = number-same 1 (omega arith) ∙ h .asks .members
-          ; periods = number-same 2 (omega arith) ∙ h .asks .periods
-          ; steps = number-same 3 (omega arith) ∙ h .asks .steps
-          ; blocks = number-same 4 (omega arith) ∙ h .asks .blocks
-          ; long = omega (arith, long, h .asks .long) }
-      ; me = number-same 5 (omega arith) ∙ h .me
-      ; place = record
-          { period = number-same 6 (omega arith) ∙ h .place .period
-          ; step = number-same 7 (omega arith) ∙ h .place .step
-          ; free = rw (number-same 8 (omega arith)) (h .place .free)
-          ; certain = rw (number-same 9 (omega arith)) (h .place .certain)
-          ; blocks = number-same 10 (omega arith) ∙ h .place .blocks }
-      ; start = option-same a b 11 (λ i low high. number-same i (omega arith)) ∙ h .start
-      ; agreed = option-same a b 16 (λ i low high. number-same i (omega arith)) ∙ h .agreed }
+  header-kept h = record {
+    asks = record {
+      marked = number-same 0 (omega arith) ∙ h .asks .marked;
+      members = number-same 1 (omega arith) ∙ h .asks .members;
+      periods = number-same 2 (omega arith) ∙ h .asks .periods;
+      steps = number-same 3 (omega arith) ∙ h .asks .steps;
+      blocks = number-same 4 (omega arith) ∙ h .asks .blocks;
+      long = omega (arith, long, h .asks .long);
+    };
+    me = number-same 5 (omega arith) ∙ h .me;
+    place = record {
+      period = number-same 6 (omega arith) ∙ h .place .period;
+      step = number-same 7 (omega arith) ∙ h .place .step;
+      free = rw (number-same 8 (omega arith)) (h .place .free);
+      certain = rw (number-same 9 (omega arith)) (h .place .certain);
+      blocks = number-same 10 (omega arith) ∙ h .place .blocks;
+    };
+    start = option-same a b 11 (λ i low high. number-same i (omega arith)) ∙ h .start;
+    agreed = option-same a b 16 (λ i low high. number-same i (omega arith)) ∙ h .agreed;
+  }
 
 -- REFUSALS
 

@@ -45,8 +45,10 @@ each-on l (v ∷ vs) m e =
   where
     one : List ℕ
     one = certified-in l (v ∷ []) (m .votes) (m .blocks)
+
     rest : List ℕ
     rest = certified-in l vs (m .votes) (m .blocks)
+
     go : (b : Bool) → agree-each l vs m ≡ agree-on rest m →
         agree-each l vs (agree-on (cond b (v .value ∷ []) []) m) ≡ agree-on (cond b (v .value ∷ []) rest) m
     go true same = each-agreed l vs (v .value) m
@@ -63,9 +65,9 @@ agree-new : (l : Limits) (m : Member) (ns vs : List Vote) → m .agreed ≡ [] �
 agree-new l m ns vs e all before =
     agree-open l m e
     ∙ ap (λ (xs : List ℕ). agree-on xs m)
-        (ap (λ (us : List Vote). certified-in l us us (m .blocks)) all
-        ∙ certified-new l ns vs (m .blocks) before
-        ∙ ap (λ (us : List Vote). certified-in l ns us (m .blocks)) (sym all))
+    (ap (λ (us : List Vote). certified-in l us us (m .blocks)) all
+    ∙ certified-new l ns vs (m .blocks) before
+    ∙ ap (λ (us : List Vote). certified-in l ns us (m .blocks)) (sym all))
     ∙ sym (each-on l ns m e)
 
 -- WHAT THE RULES KEEP
@@ -84,14 +86,14 @@ cert-adds (x ∷ xs) m = record { votes = refl; blocks = refl; agreed = refl }
 certainly-adds : (l : Limits) (m : Member) → Adds (certainly l (silent m) .out) m (certainly l (silent m) .member)
 certainly-adds l m =
     cond-both (eqb (m .step) 1 && not (m .certain)) (say-cert (chosen l m) (silent m)) (silent m)
-        (λ d. Adds (d .out) m (d .member))
-        (λ _. cert-adds (chosen l m) m) (λ _. record { votes = refl; blocks = refl; agreed = refl })
+    (λ d. Adds (d .out) m (d .member))
+    (λ _. cert-adds (chosen l m) m) (λ _. record { votes = refl; blocks = refl; agreed = refl })
 
 onward-adds : (l : Limits) (v : Vote) (m : Member) → Adds [] m (onward l v (silent m) .member)
 onward-adds l v m =
     onward-keeps l (λ d. Adds [] m (d .member)) v (silent m)
-        (λ _ _ _. record { votes = refl; blocks = refl; agreed = refl })
-        (record { votes = refl; blocks = refl; agreed = refl })
+    (λ _ _ _. record { votes = refl; blocks = refl; agreed = refl })
+    (record { votes = refl; blocks = refl; agreed = refl })
 
 -- A VOTE COMES
 
@@ -118,11 +120,11 @@ vote-member l m v e before =
     let on : Adds [] (with-vote v m) n = onward-adds l v (with-vote v m) in
     let said : Adds (d .out) n (d .member) = certainly-adds l n in
     let all : d .member .votes ≡ (d .out ++ (v ∷ [])) ++ m .votes =
-          said .votes ∙ ap (λ (us : List Vote). d .out ++ us) (on .votes) ∙ sym (append-more (d .out) v (m .votes)) in
+    said .votes ∙ ap (λ (us : List Vote). d .out ++ us) (on .votes) ∙ sym (append-more (d .out) v (m .votes)) in
     let blocks : d .member .blocks ≡ m .blocks = said .blocks ∙ on .blocks in
     ap (λ (f : Outcome). f .member) (vote-heard l m v)
     ∙ agree-new l (d .member) (d .out ++ (v ∷ [])) (m .votes) (said .agreed ∙ on .agreed ∙ e) all
-        (ap (λ (bs : List ℕ). certified-in l (m .votes) (m .votes) bs) blocks ∙ before)
+    (ap (λ (bs : List ℕ). certified-in l (m .votes) (m .votes) bs) blocks ∙ before)
     ∙ each-append l (d .out) v (d .member)
 
 -- A BLOCK COMES
@@ -141,13 +143,14 @@ block-certified : (l : Limits) (ns vs : List Vote) (bs : List ℕ) (x : ℕ) →
     certified-in l (ns ++ vs) (ns ++ vs) (add-block x bs) ≡ cond (certified-by l x (l .periods) (ns ++ vs)) (x ∷ []) []
 block-certified l ns vs bs x one before good =
     cond-both (is-in x bs) bs (x ∷ bs) Brings
-        (λ here none.
-            let same : certified-in l us us bs ≡ [] = certified-new l ns vs bs before ∙ none in
-            same ∙ sym (cond-false _ (x ∷ []) [] (certified-known l us bs x (l .periods) one here same)))
-        (λ _ none. certified-block l ns vs bs x before good one none)
+    (λ here none.
+    let same : certified-in l us us bs ≡ [] = certified-new l ns vs bs before ∙ none in
+    same ∙ sym (cond-false _ (x ∷ []) [] (certified-known l us bs x (l .periods) one here same)))
+    (λ _ none. certified-block l ns vs bs x before good one none)
   where
     us : List Vote
     us = ns ++ vs
+
     Brings : List ℕ → Type 0
     Brings cs =
         certified-in l ns us cs ≡ [] → certified-in l us us cs ≡ cond (certified-by l x (l .periods) us) (x ∷ []) []
@@ -155,26 +158,28 @@ block-certified l ns vs bs x one before good =
 -- if it agrees by what it said, the block adds nothing
 block-after : (l : Limits) (m : Member) (x : ℕ) (ns vs : List Vote) → m .agreed ≡ [] → m .votes ≡ ns ++ vs →
     (certified-in l ns (ns ++ vs) (m .blocks) ≡ [] →
-      certified-in l (ns ++ vs) (ns ++ vs) (m .blocks) ≡ cond (certified-by l x (l .periods) (ns ++ vs)) (x ∷ []) []) →
+    certified-in l (ns ++ vs) (ns ++ vs) (m .blocks) ≡ cond (certified-by l x (l .periods) (ns ++ vs)) (x ∷ []) []) →
     agree l (silent m) .member ≡ agree-block l x (agree-each l ns m)
 unfolding agree-on is-some
 block-after l m x ns vs e all brings =
     agree-open l m e
     ∙ ap (λ (us : List Vote). agree-on (certified-in l us us (m .blocks)) m) all
-    ∙ elim (certified-at-most-one l (ns ++ vs) (m .blocks) ns)
-        [ inl none ↦
-            ap (λ (xs : List ℕ). agree-on xs m) (brings none)
-            ∙ by-block (certified-by l x (l .periods) (ns ++ vs))
-            ∙ ap by-votes (sym all)
-            ∙ ap (λ (xs : List ℕ). agree-block l x (agree-on xs m)) (sym none)
-        | inr (y, f) ↦
-            ap (λ (xs : List ℕ). agree-on xs m) (certified-found l ns vs (m .blocks) y f)
-            ∙ ap (λ (xs : List ℕ). agree-block l x (agree-on xs m)) (sym f) ]
+    ∙ elim (certified-at-most-one l (ns ++ vs) (m .blocks) ns) [
+      | inl none ↦
+          ap (λ (xs : List ℕ). agree-on xs m) (brings none)
+          ∙ by-block (certified-by l x (l .periods) (ns ++ vs))
+          ∙ ap by-votes (sym all)
+          ∙ ap (λ (xs : List ℕ). agree-block l x (agree-on xs m)) (sym none)
+      | inr (y, f) ↦
+          ap (λ (xs : List ℕ). agree-on xs m) (certified-found l ns vs (m .blocks) y f)
+          ∙ ap (λ (xs : List ℕ). agree-block l x (agree-on xs m)) (sym f)
+    ]
     ∙ ap (λ (us : List Vote). agree-block l x (agree-on (certified-in l ns us (m .blocks)) m)) (sym all)
     ∙ ap (agree-block l x) (sym (each-on l ns m e))
   where
     by-votes : List Vote → Member
     by-votes us = cond (is-some (m .agreed)) m (cond (certified-by l x (l .periods) us) (having-agreed x m) m)
+
     by-block : (b : Bool) →
         agree-on (cond b (x ∷ []) []) m ≡ cond (is-some (m .agreed)) m (cond b (having-agreed x m) m)
     by-block true = ap (λ (xs : List ℕ). cond (is-some xs) m (having-agreed x m)) (sym e)
@@ -189,7 +194,7 @@ block-member l m x one e before good =
     let said : Adds (d .out) n (d .member) = certainly-adds l n in
     ap (λ (f : Outcome). f .member) (block-plain l m x)
     ∙ block-after l (d .member) x (d .out) (m .votes) (said .agreed ∙ e) (said .votes)
-        (rw (said .blocks) (block-certified l (d .out) (m .votes) (m .blocks) x one before (rw (said .votes) at good)))
+    (rw (said .blocks) (block-certified l (d .out) (m .votes) (m .blocks) x one before (rw (said .votes) at good)))
 
 -- TIME IS UP
 
@@ -233,7 +238,7 @@ first-member l m at e before =
     ap (λ (f : Outcome). f .member) (first-plain l m at)
     ∙ agree-member l (certainly l (first-said m)) d (certainly-member l n (first-said m .out))
     ∙ agree-new l (d .member) (d .out) (n .votes) (said .agreed ∙ soft-agreed (soft-value m) (at-step 1 m) ∙ e)
-        (said .votes) (rw (said .blocks) (soft-keeps l (soft-value m) (at-step 1 m) before))
+    (said .votes) (rw (said .blocks) (soft-keeps l (soft-value m) (at-step 1 m) before))
 
 -- the vote with which it goes on, at a step after the first
 abbrev pub later-vote : Limits → Member → ℕ → Vote
@@ -244,7 +249,7 @@ unfolding next-vote
 next-other m s (x ∷ xs) = refl
 next-other m s [] =
     cond-both (m .free) (own m next-none s 0) (own m next s (first-or-zero (m .start)))
-        (λ v. eqb (v .kind) cert ≡ false) (λ _. refl) (λ _. refl)
+    (λ v. eqb (v .kind) cert ≡ false) (λ _. refl) (λ _. refl)
 
 pub later-out : (l : Limits) (m : Member) (s : ℕ) → m .step ≡ suc s →
     does l m timeout .out ≡ later-vote l m s ∷ []
@@ -266,4 +271,4 @@ later-member l m s at e before =
     ap (λ (f : Outcome). f .member) (later-plain l m s at)
     ∙ agree-member l (onward l v (record { member = n; out = v ∷ [] })) d (onward-member l v n (v ∷ []))
     ∙ agree-new l (d .member) [] (n .votes) (on .agreed ∙ e) (on .votes)
-        (rw (on .blocks) (not-cert l v (at-step (suc (suc s)) m) (next-other m (suc (suc s)) (chosen l m)) before))
+    (rw (on .blocks) (not-cert l v (at-step (suc (suc s)) m) (next-other m (suc (suc s)) (chosen l m)) before))

@@ -39,24 +39,26 @@ module _ (mem : List ℕ) (x y : code.Member) (hx : Header mem x) (hy : Header m
       λ i. record { takes = all; members = members i; periods = periods i; steps = steps i; blocks = blocks i }
 
   pub loaded : (m : Member) → Stands y mem m → Stands x mem m
-  loaded m h = record
-      { me = sym (hx .me) ∙ hy .me ∙ h .me
-      ; period = sym (hx .place .period) ∙ hy .place .period ∙ h .period
-      ; step = sym (hx .place .step) ∙ hy .place .step ∙ h .step
-      ; start = sym (hx .start) ∙ hy .start ∙ h .start
-      ; free = sym (hx .place .free) ∙ hy .place .free ∙ h .free
-      ; certain = sym (hx .place .certain) ∙ hy .place .certain ∙ h .certain
-      ; agreed = sym (hx .agreed) ∙ hy .agreed ∙ h .agreed
-      ; votes = subst (λ (l : Limits). Holds l (part of-votes l mem) (m .votes)) (sym same-limits) (h .votes)
-      ; proposals = subst (λ (l : Limits). Proposes l (part of-proposals l mem) (m .proposals)) (sym same-limits) (h .proposals)
-      ; blocks = ap (λ (n : ℕ). blocks-in (part of-blocks (lim x) mem) n) (sym (hx .place .blocks) ∙ hy .place .blocks)
-          ∙ ap (λ (l : Limits). blocks-in (part of-blocks l mem) (y .blocks)) same-limits ∙ h .blocks }
+  loaded m h = record {
+    me = sym (hx .me) ∙ hy .me ∙ h .me;
+    period = sym (hx .place .period) ∙ hy .place .period ∙ h .period;
+    step = sym (hx .place .step) ∙ hy .place .step ∙ h .step;
+    start = sym (hx .start) ∙ hy .start ∙ h .start;
+    free = sym (hx .place .free) ∙ hy .place .free ∙ h .free;
+    certain = sym (hx .place .certain) ∙ hy .place .certain ∙ h .certain;
+    agreed = sym (hx .agreed) ∙ hy .agreed ∙ h .agreed;
+    votes = subst (λ (l : Limits). Holds l (part of-votes l mem) (m .votes)) (sym same-limits) (h .votes);
+    proposals = subst (λ (l : Limits). Proposes l (part of-proposals l mem) (m .proposals)) (sym same-limits) (h .proposals);
+    blocks = ap (λ (n : ℕ). blocks-in (part of-blocks (lim x) mem) n) (sym (hx .place .blocks) ∙ hy .place .blocks)
+        ∙ ap (λ (l : Limits). blocks-in (part of-blocks l mem) (y .blocks)) same-limits ∙ h .blocks;
+  }
 
 -- what is true of a member alone after any events
 alone : (l : Limits) (i : ℕ) (es : List Event) → i < l .members → Lone l (member-after l i es)
-alone l i es h = record
-    { fresh = subst (λ (j : ℕ). Fresh l j (member-after l i es)) (sym (in-its-place l i es h .me)) (own-fresh l i es h)
-    ; none = agrees-at-once l i es h }
+alone l i es h = record {
+  fresh = subst (λ (j : ℕ). Fresh l j (member-after l i es)) (sym (in-its-place l i es h .me)) (own-fresh l i es h);
+  none = agrees-at-once l i es h;
+}
 
 -- what memory holds, at the stage that takes every event
 module _ (mem : List ℕ) (x : code.Member) (hx : Header mem x) (l : Limits) (i : ℕ) (es : List Event) (k : Kept l i es mem) where
@@ -94,11 +96,12 @@ module _ (mem : List ℕ) (x : code.Member) (hx : Header mem x) (l : Limits) (i 
     after-is = same-after l all (l .takes) all-taken (k .takes) m₀ e ∙ ap (λ (m : Member). after l m e) is-m
 
     kept-then : Kept l i (e ∷ es) new
-    kept-then = record
-        { takes = k .takes
-        ; carries = subst (λ (m : Member). Carries (taking-all l) i new m) after-is
-            (subst (λ (j : ℕ). Carries (taking-all l) j new (after (taking-all l) m₀ e)) is-i
-                (subst (λ (j : Limits). Carries j (x .me) new (after j m₀ e)) is-l (ans .carries))) }
+    kept-then = record {
+      takes = k .takes;
+      carries = subst (λ (m : Member). Carries (taking-all l) i new m) after-is
+          (subst (λ (j : ℕ). Carries (taking-all l) j new (after (taking-all l) m₀ e)) is-i
+          (subst (λ (j : Limits). Carries j (x .me) new (after j m₀ e)) is-l (ans .carries)));
+    }
 
     refusal-is : refusal (lim x) m₀ e ≡ refusal l (member-after l i es) e
     refusal-is =
@@ -112,13 +115,14 @@ module _ (mem : List ℕ) (x : code.Member) (hx : Header mem x) (l : Limits) (i 
 pub called : (mem new : List ℕ) (x : code.Member) (e : Event) (a : code-answer.Answer) → Header mem x →
     ((m : Member) → Header mem x → Stands x mem m → Lone (lim x) m → Answered x mem new m e a) →
     length new ≡ length mem → all-words new ≡ true → Called mem e new (answer-of a)
-called mem new x e a hx ans long words = record
-    { is = λ l i es k. answer-is mem x hx l i es k new e a (at l i es k)
-    ; kept = λ l i es k. kept-then mem x hx l i es k new e a (at l i es k)
-    ; refused = λ l i es k h. at l i es k .kept (subst (λ (n : ℕ). 0 < n) (sym (refusal-is mem x hx l i es k new e a (at l i es k))) h)
-    ; rest = λ l i es k. rest-is mem x hx l i es k new e a (at l i es k)
-    ; long = long
-    ; words = λ h. words }
+called mem new x e a hx ans long words = record {
+  is = λ l i es k. answer-is mem x hx l i es k new e a (at l i es k);
+  kept = λ l i es k. kept-then mem x hx l i es k new e a (at l i es k);
+  refused = λ l i es k h. at l i es k .kept (subst (λ (n : ℕ). 0 < n) (sym (refusal-is mem x hx l i es k new e a (at l i es k))) h);
+  rest = λ l i es k. rest-is mem x hx l i es k new e a (at l i es k);
+  long = long;
+  words = λ h. words;
+}
   where
     at : (l : Limits) (i : ℕ) (es : List Event) (k : Kept l i es mem) →
         Answered x mem new (member-after (taking-all l) i es) e a
@@ -127,13 +131,14 @@ called mem new x e a hx ans long words = record
 -- bytes that are no event
 pub called-unreadable : (mem : List ℕ) (n : ℕ) → Called mem (unreadable n) mem (refused 1 n)
 unfolding is-event place member-after
-called-unreadable mem n = record
-    { is = λ l i es k. refl
-    ; kept = λ l i es k. record { takes = k .takes; carries = k .carries }
-    ; refused = λ l i es k h. refl
-    ; rest = λ l i es k. refl
-    ; long = refl
-    ; words = λ h. h }
+called-unreadable mem n = record {
+  is = λ l i es k. refl;
+  kept = λ l i es k. record { takes = k .takes; carries = k .carries };
+  refused = λ l i es k h. refl;
+  rest = λ l i es k. refl;
+  long = refl;
+  words = λ h. h;
+}
 
 -- what is seen of it
 pub looks : (mem : List ℕ) (x : code.Member) → Header mem x → Looks mem x

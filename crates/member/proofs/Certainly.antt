@@ -33,17 +33,23 @@ module _ (l : Limits) (m : Member) where
   unfolding say-cert
   certain-says x s c h =
       cond-true (eqb (m .step) 1 && not (m .certain)) (say-cert (chosen l m) (silent m)) (silent m)
-          (and-from _ _ (eq-eqb (m .step) 1 s) (not-from-false _ c))
+      (and-from _ _ (eq-eqb (m .step) 1 s) (not-from-false _ c))
       ∙ ap (λ (xs : List ℕ). say-cert xs (silent m)) h
 
 -- a vote of one's own that is for a value is in range: soft or cert, and to go on
 pub first-in-range : (x : code.Member) (k : ℕ) (v : Value) → k < next → x .period ≤ x .limits .periods →
     Ranged (lim x) (own-vote x k 0 (value-of v))
-first-in-range x k v first few = record
-    { kinds = omega arith; from-1 = x .«some_period»; periods = few; member = x .member
-    ; value = value-below (v .limbs) (v .four) (v .fit)
-    ; first-step = λ h. refl; later-step = λ h. absurd (omega arith); steps = λ h. absurd (omega arith)
-    ; no-value = λ h. absurd (omega arith) }
+first-in-range x k v first few = record {
+  kinds = omega arith;
+  from-1 = x .«some_period»;
+  periods = few;
+  member = x .member;
+  value = value-below (v .limbs) (v .four) (v .fit);
+  first-step = λ h. refl;
+  later-step = λ h. absurd (omega arith);
+  steps = λ h. absurd (omega arith);
+  no-value = λ h. absurd (omega arith);
+}
 
 pub first-said : (x : code.Member) (k : ℕ) (v : Value) (r : code-vote.Vote) → vote-of r ≡ own-vote x k 0 (value-of v) → k < next →
     x .period ≤ x .limits .periods → vote-in-range (lim x) (vote-of r) ≡ true

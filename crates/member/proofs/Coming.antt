@@ -30,11 +30,11 @@ pub may-vote : (l : Limits) (m : Member) (v : Vote) → Ready l m → (v .from �
     May-be-certain (onward l v (silent (with-vote v m)) .member)
 may-vote l m v ready other =
     subst May-be-certain (sym (by-its-kind l v (with-vote v m)))
-        (cond-both (goes l v (with-vote v m) (v .kind)) (gone l v (with-vote v m) (v .kind)) (with-vote v m) May-be-certain
-            (λ e x step certain. absurd (omega (arith, step)))
-            (λ e x step certain.
-                free-behind (own m cert 0 x) v (m .votes) (and-right _ _ (ne-eqb (m .me) (v .from) (λ h. other (sym h))))
-                    (ready .fresh .cert-slot x certain)))
+    (cond-both (goes l v (with-vote v m) (v .kind)) (gone l v (with-vote v m) (v .kind)) (with-vote v m) May-be-certain
+    (λ e x step certain. absurd (omega (arith, step)))
+    (λ e x step certain.
+    free-behind (own m cert 0 x) v (m .votes) (and-right _ _ (ne-eqb (m .me) (v .from) (λ h. other (sym h))))
+    (ready .fresh .cert-slot x certain)))
 
 -- a move by a member whose limits are l
 module _ (l : Limits) (y z : code.Member) (e : lim y ≡ l) (mem new : List ℕ) where
@@ -47,7 +47,7 @@ module _ (l : Limits) (y z : code.Member) (e : lim y ≡ l) (mem new : List ℕ)
   each-at : (vs ws : List Vote) (m : Member) → vs ≡ ws → Stands z new (agree-each (lim y) vs m) → Stands z new (agree-each l ws m)
   each-at vs ws m same h =
       subst (λ (us : List Vote). Stands z new (agree-each l us m)) same
-          (subst (λ (k : Limits). Stands z new (agree-each k vs m)) e h)
+      (subst (λ (k : Limits). Stands z new (agree-each k vs m)) e h)
 
   by-at : (v : Vote) (m : Member) → Stands z new (agree-by (lim y) v m) → Stands z new (agree-by l v m)
   by-at v m h = subst (λ (k : Limits). Stands z new (agree-by k v m)) e h
@@ -58,7 +58,7 @@ module _ (l : Limits) (y z : code.Member) (e : lim y ≡ l) (mem new : List ℕ)
   on-at : (v w : Vote) (m : Member) → v ≡ w → Stands z new (onward (lim y) v (silent m) .member) → Stands z new (onward l w (silent m) .member)
   on-at v w m same h =
       subst (λ (u : Vote). Stands z new (onward l u (silent m) .member)) same
-          (subst (λ (k : Limits). Stands z new (onward k v (silent m) .member)) e h)
+      (subst (λ (k : Limits). Stands z new (onward k v (silent m) .member)) e h)
 
 -- what a call of `certainly`, `agree_by_own` and the others ensures
 abbrev Certain : code.Member → List ℕ → code.Member → List ℕ → Option code-vote.Vote → Type 0
@@ -78,7 +78,7 @@ module _ (l : Limits) (y₁ y₂ y₃ : code.Member) (e₁ : lim y₁ ≡ l) (e�
   pub then-agreed : Stands y₃ new (agree-each l (certainly l (silent m) .out) (certainly l (silent m) .member))
   then-agreed =
       each-at l y₂ y₃ e₂ new new (voted said) (certainly l (silent m) .out) (certainly l (silent m) .member) said-certain
-          (agreed _ (certain-at l y₁ y₂ e₁ mem new said m (certain m h may) .0))
+      (agreed _ (certain-at l y₁ y₂ e₁ mem new said m (certain m h may) .0))
 
 -- A VOTE
 pub vote-done : (x y₁ y₂ y₃ y₄ : code.Member) (e₁ : lim y₁ ≡ lim x) (e₂ : lim y₂ ≡ lim x) (e₃ : lim y₃ ≡ lim x)
@@ -92,11 +92,12 @@ vote-done x y₁ y₂ y₃ y₄ e₁ e₂ e₃ mem new said v on certain agreed 
     let l : Limits = lim x in
     let m₂ : Member = onward l v (silent (with-vote v m)) .member in
     let may : May-be-certain m₂ = may-vote l m v ready other in
-    record
-        { stands = subst (λ (k : Member). Stands y₄ new k) (sym (vote-member l m v (ready .open-minded) (ready .none)))
-            (by-at l y₃ y₄ e₃ new new v _
-                (by _ (then-agreed l y₁ y₂ y₃ e₁ e₂ mem new said certain agreed m₂ (on _ h) may)))
-        ; out = said-certain l y₁ y₂ y₃ e₁ e₂ mem new said certain agreed m₂ (on _ h) may ∙ sym (vote-out l m v) }
+    record {
+      stands = subst (λ (k : Member). Stands y₄ new k) (sym (vote-member l m v (ready .open-minded) (ready .none)))
+          (by-at l y₃ y₄ e₃ new new v _
+          (by _ (then-agreed l y₁ y₂ y₃ e₁ e₂ mem new said certain agreed m₂ (on _ h) may)));
+      out = said-certain l y₁ y₂ y₃ e₁ e₂ mem new said certain agreed m₂ (on _ h) may ∙ sym (vote-out l m v);
+    }
 
 -- A BLOCK
 pub block-done : (x y₁ y₂ y₃ y₄ : code.Member) (e₁ : lim y₁ ≡ lim x) (e₂ : lim y₂ ≡ lim x) (e₃ : lim y₃ ≡ lim x)
@@ -111,13 +112,14 @@ block-done x y₁ y₂ y₃ y₄ e₁ e₂ e₃ mem new said v certain agreed by
     let may : May-be-certain m₂ = λ y step none. ready .fresh .cert-slot y none in
     let there : Stands y₂ new (supplied l m v .member) = certain-at l y₁ y₂ e₁ mem new said m₂ (certain m₂ h may) .0 in
     let range : all-in-range l (supplied l m v .member .votes) ≡ true =
-        subst (λ (k : Limits). all-in-range k (supplied l m v .member .votes) ≡ true) e₂ (there .votes .in-range) in
-    record
-        { stands = subst (λ (k : Member). Stands y₄ new k)
-            (sym (block-member l m v (x .limits .«some_member») (ready .open-minded) (ready .none) range))
-            (block-at l y₃ y₄ e₃ new new v _
-                (by _ (then-agreed l y₁ y₂ y₃ e₁ e₂ mem new said certain agreed m₂ h may)))
-        ; out = said-certain l y₁ y₂ y₃ e₁ e₂ mem new said certain agreed m₂ h may ∙ sym (block-out l m v) }
+    subst (λ (k : Limits). all-in-range k (supplied l m v .member .votes) ≡ true) e₂ (there .votes .in-range) in
+    record {
+      stands = subst (λ (k : Member). Stands y₄ new k)
+          (sym (block-member l m v (x .limits .«some_member») (ready .open-minded) (ready .none) range))
+          (block-at l y₃ y₄ e₃ new new v _
+          (by _ (then-agreed l y₁ y₂ y₃ e₁ e₂ mem new said certain agreed m₂ h may)));
+      out = said-certain l y₁ y₂ y₃ e₁ e₂ mem new said certain agreed m₂ h may ∙ sym (block-out l m v);
+    }
 
 -- TIME
 -- after its soft vote it may come to be certain
@@ -135,12 +137,13 @@ pub first-done : (x y₁ y₂ y₃ : code.Member) (e₁ : lim y₁ ≡ lim x) (e
 first-done x y₁ y₂ y₃ e₁ e₂ mem new first said certain agreed m ready step h =
     let l : Limits = lim x in
     let may : May-be-certain (first-said m .member) = may-soft l m (soft-value m) ready in
-    record
-        { stands = subst (λ (k : Member). Stands y₃ new k) (sym (first-member l m step (ready .open-minded) (ready .none)))
-            (then-agreed l y₁ y₂ y₃ e₁ e₂ mem new said certain agreed (first-said m .member) (h .stands) may)
-        ; out = ap₂ (λ (us vs : List Vote). us ++ vs) (h .out)
-                (said-certain l y₁ y₂ y₃ e₁ e₂ mem new said certain agreed (first-said m .member) (h .stands) may)
-            ∙ sym (first-out l m step) }
+    record {
+      stands = subst (λ (k : Member). Stands y₃ new k) (sym (first-member l m step (ready .open-minded) (ready .none)))
+          (then-agreed l y₁ y₂ y₃ e₁ e₂ mem new said certain agreed (first-said m .member) (h .stands) may);
+      out = ap₂ (λ (us vs : List Vote). us ++ vs) (h .out)
+          (said-certain l y₁ y₂ y₃ e₁ e₂ mem new said certain agreed (first-said m .member) (h .stands) may)
+          ∙ sym (first-out l m step);
+    }
 
 -- the slot of its next vote to go on is free
 pub next-slot : (l : Limits) (m : Member) (xs : List ℕ) → Ready l m → slot-taken (next-vote m (suc (m .step)) xs) (m .votes) ≡ false
@@ -148,9 +151,9 @@ unfolding next-vote
 next-slot l m (x ∷ xs) ready = ready .fresh .step-slots next (suc (m .step)) x (omega arith) (omega arith)
 next-slot l m [] ready =
     cond-both (m .free) (own m next-none (suc (m .step)) 0) (own m next (suc (m .step)) (first-or-zero (m .start)))
-        (λ (w : Vote). slot-taken w (m .votes) ≡ false)
-        (λ e. ready .fresh .step-slots next-none (suc (m .step)) 0 (omega arith) (omega arith))
-        (λ e. ready .fresh .step-slots next (suc (m .step)) (first-or-zero (m .start)) (omega arith) (omega arith))
+    (λ (w : Vote). slot-taken w (m .votes) ≡ false)
+    (λ e. ready .fresh .step-slots next-none (suc (m .step)) 0 (omega arith) (omega arith))
+    (λ e. ready .fresh .step-slots next (suc (m .step)) (first-or-zero (m .start)) (omega arith) (omega arith))
 
 pub later-done : (x y₁ y₂ : code.Member) (e₁ : lim y₁ ≡ lim x) (mem : List ℕ) (vote : code-vote.Vote) →
     ((m : Member) → Stands y₁ mem m → Stands y₂ mem (onward (lim y₁) (vote-of vote) (silent m) .member)) →
@@ -161,8 +164,9 @@ later-done x y₁ y₂ e₁ mem vote on m s ready step h =
     let v : Vote = next-vote m (suc (suc s)) (chosen l m) in
     let same : vote-of vote ≡ v = h .vote ∙ ap (λ (n : ℕ). next-vote m (suc n) (chosen l m)) step in
     let there : Stands y₁ mem (with-vote v (at-step (suc (suc s)) m)) =
-        subst (λ (n : ℕ). Stands y₁ mem (with-vote (next-vote m (suc n) (chosen l m)) (at-step (suc n) m))) step (h .stands) in
-    record
-        { stands = subst (λ (k : Member). Stands y₂ mem k) (sym (later-member l m s step (ready .open-minded) (ready .none)))
-            (on-at l y₁ y₂ e₁ mem mem (vote-of vote) v (with-vote v (at-step (suc (suc s)) m)) same (on _ there))
-        ; out = ap (λ (w : Vote). w ∷ []) same ∙ sym (later-out l m s step) }
+    subst (λ (n : ℕ). Stands y₁ mem (with-vote (next-vote m (suc n) (chosen l m)) (at-step (suc n) m))) step (h .stands) in
+    record {
+      stands = subst (λ (k : Member). Stands y₂ mem k) (sym (later-member l m s step (ready .open-minded) (ready .none)))
+          (on-at l y₁ y₂ e₁ mem mem (vote-of vote) v (with-vote v (at-step (suc (suc s)) m)) same (on _ there));
+      out = ap (λ (w : Vote). w ∷ []) same ∙ sym (later-out l m s step);
+    }

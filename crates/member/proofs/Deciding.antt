@@ -78,13 +78,18 @@ module _ (l : protocol.Limits) (m : Member) (takes : (k : ℕ) → l .takes k �
 -- refused: nothing changes
 pub refuse : (x : code.Member) (mem : List ℕ) (m : Member) (e : Event) (k : ℕ) (a : Answer) → refusal (lim x) m e ≡ suc k →
     answer-of a ≡ refused (suc k) (place e) → Header mem x → Stands x mem m → Answered x mem mem m e a
-refuse x mem m e k a r is header stands = record
-    { is = is ∙ sym (refused-answer (lim x) m e k r)
-    ; carries = record
-        { member = x; limits = refl; me = refl; header = header
-        ; stands = subst (λ (n : Member). Stands x mem n) (sym (refused-after (lim x) m e k r)) stands }
-    ; kept = λ h. refl
-    ; rest = refl }
+refuse x mem m e k a r is header stands = record {
+  is = is ∙ sym (refused-answer (lim x) m e k r);
+  carries = record {
+    member = x;
+    limits = refl;
+    me = refl;
+    header = header;
+    stands = subst (λ (n : Member). Stands x mem n) (sym (refused-after (lim x) m e k r)) stands;
+  };
+  kept = λ h. refl;
+  rest = refl;
+}
 
 -- done: the member after it is written
 pub done : (x y : code.Member) (mem mid new : List ℕ) (m : Member) (e : Event) (a : Answer) (said : List Vote) →
@@ -94,14 +99,15 @@ pub done : (x y : code.Member) (mem mid new : List ℕ) (m : Member) (e : Event)
     Only-in of-header (lim y) mid new → Answered x mem new m e a
 done x y mem mid new m e a said r same header kept long did is carries only =
     let there : Carries (lim y) (y .me) new (does (lim x) m e .member) =
-        carries x _ (header-kept mem mid x (lim x) (kept .header) long header) same (did .stands) in
-    record
-        { is = is ∙ ap₂ says (did .out) (did .stands .agreed) ∙ sym (taken-answer (lim x) m e r)
-        ; carries = subst (λ (n : Member). Carries (lim x) (x .me) new n) (sym (taken-after (lim x) m e r))
-            (subst (λ (l : protocol.Limits). Carries l (x .me) new (does (lim x) m e .member)) (same-lim x y same)
-                (subst (λ (i : ℕ). Carries (lim y) i new (does (lim x) m e .member)) (same .me) there))
-        ; kept = λ h. absurd (omega (arith, h, r))
-        ; rest = same-only x y same of-header mid new only of-rest refl ∙ kept .rest }
+    carries x _ (header-kept mem mid x (lim x) (kept .header) long header) same (did .stands) in
+    record {
+      is = is ∙ ap₂ says (did .out) (did .stands .agreed) ∙ sym (taken-answer (lim x) m e r);
+      carries = subst (λ (n : Member). Carries (lim x) (x .me) new n) (sym (taken-after (lim x) m e r))
+          (subst (λ (l : protocol.Limits). Carries l (x .me) new (does (lim x) m e .member)) (same-lim x y same)
+          (subst (λ (i : ℕ). Carries (lim y) i new (does (lim x) m e .member)) (same .me) there));
+      kept = λ h. absurd (omega (arith, h, r));
+      rest = same-only x y same of-header mid new only of-rest refl ∙ kept .rest;
+    }
 
 -- an event of the code is one, and its refusals point at place 0
 pub real : (e : code-event.Event) → is-event (event-of e) ≡ true

@@ -34,9 +34,10 @@ size-is l = omega arith
 
 pub blanked : (l : Limits) (mem ys : List ℕ) (n : ℕ) → n ≡ memory-size l → length ys ≡ n → ((i : ℕ) → getD ys i 0 ≡ 0) →
     Blank l mem (ys ++ drop n mem)
-blanked l mem ys n size long zeros = record
-    { zeros = λ i h. getD-append-left ys (drop n mem) 0 i (omega (arith, size, size-is l, long, h)) ∙ zeros i
-    ; rest = drop-append-drop n mem ys (blocks-end l) (omega (arith, size, size-is l)) long }
+blanked l mem ys n size long zeros = record {
+  zeros = λ i h. getD-append-left ys (drop n mem) 0 i (omega (arith, size, size-is l, long, h)) ∙ zeros i;
+  rest = drop-append-drop n mem ys (blocks-end l) (omega (arith, size, size-is l)) long;
+}
 
 -- each number of a list fits eight bytes
 pub words-by-places : (xs : List ℕ) → ((i : ℕ) → getD xs i 0 < word-bound) → all-words xs ≡ true
@@ -49,9 +50,9 @@ module _ (l : Limits) (mem mid new : List ℕ) (blank : Blank l mem mid) (only :
   zero-in : (i j k : ℕ) → 64 ≤ i → j ≤ blocks-end l → getD (between i j new) k 0 ≡ 0
   zero-in i j k low high =
       ⊎-elim
-          (λ (h : k < j - i). getD-take (j - i) (drop i new) k 0 h ∙ getD-drop i new k 0 ∙ only (i + k) (inr (omega arith)) ∙ blank .zeros (i + k) (omega arith))
-          (λ (h : j - i ≤ k). getD-past (take (j - i) (drop i new)) k 0 (simp length-take (omega arith)))
-          (cases-lt k (j - i))
+      (λ (h : k < j - i). getD-take (j - i) (drop i new) k 0 h ∙ getD-drop i new k 0 ∙ only (i + k) (inr (omega arith)) ∙ blank .zeros (i + k) (omega arith))
+      (λ (h : j - i ≤ k). getD-past (take (j - i) (drop i new)) k 0 (simp length-take (omega arith)))
+      (cases-lt k (j - i))
 
   pub no-votes : Holds l (part of-votes l new) []
   no-votes = holds-none l (part of-votes l new) (λ k. zero-in 64 (votes-end l) k (omega arith) (omega arith))
@@ -69,12 +70,13 @@ pub opening : (members periods steps blocks i : ℕ) (sizes : sizes.Limits) (mem
     part of-rest (limits-of all sizes) new ≡ part of-rest (limits-of all sizes) mem → length new ≡ length mem → all-words new ≡ true →
     Opening members periods steps blocks i mem new
 unfolding member-after
-opening members periods steps blocks i sizes mem new made low carries rest long words = record
-    { member = low
-    ; is = λ l h. record { takes = h .takes; carries = subst (λ (k : Limits). Carries k i new (new-member i)) (same l h) carries }
-    ; rest = λ l h. subst (λ (k : Limits). part of-rest k new ≡ part of-rest k mem) (same l h) rest
-    ; long = long
-    ; words = words }
+opening members periods steps blocks i sizes mem new made low carries rest long words = record {
+  member = low;
+  is = λ l h. record { takes = h .takes; carries = subst (λ (k : Limits). Carries k i new (new-member i)) (same l h) carries };
+  rest = λ l h. subst (λ (k : Limits). part of-rest k new ≡ part of-rest k mem) (same l h) rest;
+  long = long;
+  words = words;
+}
   where
     same : (l : Limits) → Of-numbers members periods steps blocks l → limits-of all sizes ≡ taking-all l
     same l h =

@@ -31,7 +31,7 @@ quorum-among l k p s x ns vs h =
     let both : _ = count-append k p s x ns vs in
     let enough : _ = leb-true _ _ h in
     elim (cases-lt 0 (count k p s x ns))
-        [ inl some ↦ inl (some-voter k p s x ns (omega arith)) | inr none ↦ inr (le-leb _ _ (omega arith)) ]
+    [ inl some ↦ inl (some-voter k p s x ns (omega arith)) | inr none ↦ inr (le-leb _ _ (omega arith)) ]
 
 -- so if none of the new is for it, it is as it was
 pub quorum-before : (l : Limits) (k p s x : ℕ) (ns vs : List Vote) → count k p s x ns ≡ 0 →
@@ -89,16 +89,18 @@ not-newly l ns vs bs (w ∷ ws) none before =
     go false true was is before rest =
         let (kind, both) = and-parts _ _ is in
         let (q, here) = and-parts _ _ both in
-        absurd (elim (quorum-among l cert (w .period) 0 (w .value) ns vs q)
-            [ inl (i, at) ↦ certified-finds l (ns ++ vs) bs (w .period) (w .value) 0 i ns at q here none
-            | inr old ↦ both-ways _ was (and-from _ _ kind (and-from _ _ old here)) ])
+        absurd (elim (quorum-among l cert (w .period) 0 (w .value) ns vs q) [
+          | inl (i, at) ↦ certified-finds l (ns ++ vs) bs (w .period) (w .value) 0 i ns at q here none
+          | inr old ↦ both-ways _ was (and-from _ _ kind (and-from _ _ old here))
+        ])
 
 pub certified-new : (l : Limits) (ns vs : List Vote) (bs : List ℕ) → certified-in l vs vs bs ≡ [] →
     certified-in l (ns ++ vs) (ns ++ vs) bs ≡ certified-in l ns (ns ++ vs) bs
 certified-new l ns vs bs before =
-    elim (certified-at-most-one l (ns ++ vs) bs ns)
-        [ inl none ↦ not-first l (ns ++ vs) bs ns vs none ∙ not-newly l ns vs bs vs none before ∙ sym none
-        | inr (y, e) ↦ certified-found l ns vs bs y e ∙ sym e ]
+    elim (certified-at-most-one l (ns ++ vs) bs ns) [
+      | inl none ↦ not-first l (ns ++ vs) bs ns vs none ∙ not-newly l ns vs bs vs none before ∙ sym none
+      | inr (y, e) ↦ certified-found l ns vs bs y e ∙ sym e
+    ]
 
 -- A BLOCK COMES
 
@@ -145,17 +147,21 @@ pub certified-block : (l : Limits) (ns vs : List Vote) (bs : List ℕ) (x : ℕ)
     all-in-range l (ns ++ vs) ≡ true → 1 ≤ l .members → certified-in l ns (ns ++ vs) (x ∷ bs) ≡ [] →
     certified-in l (ns ++ vs) (ns ++ vs) (x ∷ bs) ≡ cond (certified-by l x (l .periods) (ns ++ vs)) (x ∷ []) []
 certified-block l ns vs bs x before good one none =
-    elim (certified-at-most-one l us (x ∷ bs) us)
-        [ inl e ↦ e ∙ sym (cond-false _ (x ∷ []) [] (certified-known l us (x ∷ bs) x _ one (is-in-first x bs) e))
-        | inr (y, e) ↦ (let (p, q, b) = certified-has-both l us (x ∷ bs) y [] us e in found p y e q b) ]
+    elim (certified-at-most-one l us (x ∷ bs) us) [
+      | inl e ↦ e ∙ sym (cond-false _ (x ∷ []) [] (certified-known l us (x ∷ bs) x _ one (is-in-first x bs) e))
+      | inr (y, e) ↦ (let (p, q, b) = certified-has-both l us (x ∷ bs) y [] us e in found p y e q b)
+    ]
   where
     us : List Vote
     us = ns ++ vs
+
     never : (p y : ℕ) → Heard l us cert p 0 y → is-in y (x ∷ bs) ≡ true → is-in y bs ≡ true → ⊥
     never p y q b old =
-        elim (quorum-among l cert p 0 y ns vs q)
-            [ inl (i, at) ↦ certified-finds l us (x ∷ bs) p y 0 i ns at q b none
-            | inr q′ ↦ some-certified l vs bs p y one q′ old before ]
+        elim (quorum-among l cert p 0 y ns vs q) [
+          | inl (i, at) ↦ certified-finds l us (x ∷ bs) p y 0 i ns at q b none
+          | inr q′ ↦ some-certified l vs bs p y one q′ old before
+        ]
+
     found : (p y : ℕ) → certified-in l us us (x ∷ bs) ≡ y ∷ [] → Heard l us cert p 0 y → is-in y (x ∷ bs) ≡ true →
         certified-in l us us (x ∷ bs) ≡ cond (certified-by l x (l .periods) us) (x ∷ []) []
     found p y e q b =

@@ -34,8 +34,8 @@ cert-settled l d (x ∷ xs) calm = onward-all-append l (d .out) _ _ ∙ calm _
 pub settle-calm : (l : Limits) (d : Outcome) → Calm l (d .out) → settle l d ≡ agree l (certainly l d)
 settle-calm l d calm =
     ap (agree l)
-        (cond-both (eqb (d .member .step) 1 && not (d .member .certain)) (say-cert (chosen l (d .member)) d) d (Settled l)
-            (λ _. cert-settled l d (chosen l (d .member)) calm) (λ _. calm d))
+    (cond-both (eqb (d .member .step) 1 && not (d .member .certain)) (say-cert (chosen l (d .member)) d) d (Settled l)
+    (λ _. cert-settled l d (chosen l (d .member)) calm) (λ _. calm d))
 
 -- AFTER A VOTE, AFTER A BLOCK
 
@@ -64,7 +64,7 @@ block-plain l m x = settle-calm l (silent (with-blocks (add-block x (m .blocks))
 abbrev Timed : Limits → Member → ℕ → Outcome
 Timed l m n =
     settle l (cond (eqb n 0) (say-soft (soft-value m) (silent (at-step 1 m)))
-        (say (next-vote m (suc n) (chosen l m)) (silent (at-step (suc n) m))))
+    (say (next-vote m (suc n) (chosen l m)) (silent (at-step (suc n) m))))
 
 soft-calm : (l : Limits) (xs : List ℕ) (m : Member) → Calm l (say-soft xs (silent m) .out)
 unfolding onward-all say-soft
@@ -85,7 +85,7 @@ not-certain l d other = cond-false _ _ d (and-left _ _ (ne-eqb _ _ other))
 pub later-plain : (l : Limits) (m : Member) (s : ℕ) → m .step ≡ suc s →
     does l m timeout
     ≡ agree l (onward l (next-vote m (suc (suc s)) (chosen l m))
-        (say (next-vote m (suc (suc s)) (chosen l m)) (silent (at-step (suc (suc s)) m))))
+    (say (next-vote m (suc (suc s)) (chosen l m)) (silent (at-step (suc (suc s)) m))))
 unfolding does onward-all
 later-plain l m s e =
     let d : Outcome = say (next-vote m (suc (suc s)) (chosen l m)) (silent (at-step (suc (suc s)) m)) in
@@ -117,6 +117,7 @@ certainly-member l m o = go (eqb (m .step) 1 && not (m .certain))
   where
     said : Outcome
     said = record { member = m; out = o }
+
     go : (b : Bool) →
         cond b (say-cert (chosen l m) said) said .member ≡ cond b (say-cert (chosen l m) (silent m)) (silent m) .member
     go true = cert-member (chosen l m) m o
@@ -128,6 +129,7 @@ certainly-out l m o = go (eqb (m .step) 1 && not (m .certain))
   where
     said : Outcome
     said = record { member = m; out = o }
+
     go : (b : Bool) →
         cond b (say-cert (chosen l m) said) said .out ≡ o ++ cond b (say-cert (chosen l m) (silent m)) (silent m) .out
     go true = cert-out (chosen l m) m o
@@ -137,10 +139,11 @@ pub onward-member : (l : Limits) (v : Vote) (m : Member) (o : List Vote) →
     onward l v (record { member = m; out = o }) .member ≡ onward l v (silent m) .member
 onward-member l v m o =
     go ((leb next (v .kind) && leb (m .period) (v .period))
-        && has-quorum l (v .kind) (v .period) (v .step) (v .value) (m .votes))
+    && has-quorum l (v .kind) (v .period) (v .step) (v .value) (m .votes))
   where
     said : Outcome
     said = record { member = m; out = o }
+
     go : (b : Bool) → cond b (gone-on v said) said .member ≡ cond b (gone-on v (silent m)) (silent m) .member
     go true = refl
     go false = refl

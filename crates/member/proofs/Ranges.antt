@@ -26,23 +26,39 @@ module _ (l : Limits) (v : Vote) where
     pub first-range : v .kind < next → eqb (v .step) 0 ≡ vote-in-range l v
     first-range k =
         same-from-decides (eqb (v .step) 0) (vote-in-range l v)
-            (decides-like (eqb (v .step) 0)
-                (λ e. record
-                    { kinds = omega arith; from-1 = low; periods = high; member = from; value = small; first-step = λ h. e
-                    ; later-step = λ h. absurd (omega arith); steps = λ h. absurd (omega arith); no-value = λ h. absurd (omega arith) })
-                (λ r. r .first-step k) (decides-eqb (v .step) 0))
-            range-decides
+        (decides-like (eqb (v .step) 0)
+        (λ e. record {
+          kinds = omega arith;
+          from-1 = low;
+          periods = high;
+          member = from;
+          value = small;
+          first-step = λ h. e;
+          later-step = λ h. absurd (omega arith);
+          steps = λ h. absurd (omega arith);
+          no-value = λ h. absurd (omega arith);
+        })
+        (λ r. r .first-step k) (decides-eqb (v .step) 0))
+        range-decides
 
     pub later-range : (t : Bool) → Decides t ((2 ≤ v .step) × (v .step ≤ l .steps + 1)) → next ≤ v .kind → v .kind ≤ next-none →
         (v .kind ≡ next-none → v .value ≡ 0) → t ≡ vote-in-range l v
     later-range t d k few none =
         same-from-decides t (vote-in-range l v)
-            (decides-like t
-                (λ e. record
-                    { kinds = few; from-1 = low; periods = high; member = from; value = small; first-step = λ h. absurd (omega arith)
-                    ; later-step = λ h. e .0; steps = λ h. omega (arith, e .1); no-value = none })
-                (λ r. (r .later-step k, omega (arith, r .steps k))) d)
-            range-decides
+        (decides-like t
+        (λ e. record {
+          kinds = few;
+          from-1 = low;
+          periods = high;
+          member = from;
+          value = small;
+          first-step = λ h. absurd (omega arith);
+          later-step = λ h. e .0;
+          steps = λ h. omega (arith, e .1);
+          no-value = none;
+        })
+        (λ r. (r .later-step k, omega (arith, r .steps k))) d)
+        range-decides
 
 -- a proposal is in range by its period
 module _ (l : Limits) (o : Proposal) where
@@ -54,7 +70,7 @@ module _ (l : Limits) (o : Proposal) where
   unfolding in-range
   proposal-by low small rank =
       by-parts (leb 1 (o .period)) (leb (o .period) (l .periods)) (ltb (o .value) value-bound) (ltb (o .rank) word-bound)
-          (le-leb 1 (o .period) low) (lt-ltb (o .value) value-bound small) (lt-ltb (o .rank) word-bound rank)
+      (le-leb 1 (o .period) low) (lt-ltb (o .value) value-bound small) (lt-ltb (o .rank) word-bound rank)
     where
       by-parts : (a b c d : Bool) → a ≡ true → c ≡ true → d ≡ true → b ≡ ((a && b) && (c && d))
       by-parts a b c d p q r = grind (arith, tells)
@@ -63,6 +79,6 @@ module _ (l : Limits) (o : Proposal) where
   unfolding in-range
   proposal-periods h =
       let all : ((leb 1 (o .period) && leb (o .period) (l .periods)) ≡ true)
-              × ((ltb (o .value) value-bound && ltb (o .rank) word-bound) ≡ true) = and-parts _ _ h in
+      × ((ltb (o .value) value-bound && ltb (o .rank) word-bound) ≡ true) = and-parts _ _ h in
       let both : (leb 1 (o .period) ≡ true) × (leb (o .period) (l .periods) ≡ true) = and-parts _ _ (all .0) in
       (leb-true _ _ (both .0), leb-true _ _ (both .1))

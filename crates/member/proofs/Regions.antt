@@ -21,7 +21,7 @@ module _ (mem ys : List ℕ) (s e : ℕ) (forward : s ≤ e) (within : e ≤ len
   pub put-here : (n m : ℕ) → s ≡ n → e ≡ m → between n m new ≡ ys
   put-here n m h k =
       subst (λ (x : ℕ). between x m new ≡ ys) h
-          (subst (λ (x : ℕ). between s x new ≡ ys) k (between-putMid s (e - s) mem ys e (omega arith) sized))
+      (subst (λ (x : ℕ). between s x new ≡ ys) k (between-putMid s (e - s) mem ys e (omega arith) sized))
 
   put-before : (i j : ℕ) → j ≤ s → between i j new ≡ between i j mem
   put-before i j h =

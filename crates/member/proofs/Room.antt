@@ -23,6 +23,6 @@ pub few-blocks : (x : ℕ) (after before : List ℕ) (n r most : ℕ) → blocks
 few-blocks x after before n r most e h room =
     let here : Bool = is-in x (blocks-in before n) in
     let long : r ≡ cond here (length (blocks-in before n)) (suc (length (blocks-in before n))) =
-        sym (length-blocks after r) ∙ ap length e ∙ added-length here x (blocks-in before n) in
+    sym (length-blocks after r) ∙ ap length e ∙ added-length here x (blocks-in before n) in
     let few : cond here n (suc n) ≤ most = added-few here n most h room in
     omega (arith, rw (length-blocks before n) at long, few)

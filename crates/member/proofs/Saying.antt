@@ -64,11 +64,25 @@ pub next-in-range : (x : code.Member) (k : Kind) (v : Value) (s : ℕ) → Goes-
     x .period ≤ x .limits .periods → Ranged (lim x) (own-vote x (kind-number k) s (value-of v))
 next-in-range x Soft v s goes low high few = absurd goes
 next-in-range x Cert v s goes low high few = absurd goes
-next-in-range x Next v s goes low high few = record
-    { kinds = omega arith; from-1 = x .«some_period»; periods = few; member = x .member
-    ; value = value-below (v .limbs) (v .four) (v .fit)
-    ; first-step = λ h. absurd (omega arith); later-step = λ h. low; steps = λ h. high; no-value = λ h. absurd (omega arith) }
-next-in-range x NextNone v s goes low high few = record
-    { kinds = omega arith; from-1 = x .«some_period»; periods = few; member = x .member
-    ; value = value-below (v .limbs) (v .four) (v .fit)
-    ; first-step = λ h. absurd (omega arith); later-step = λ h. low; steps = λ h. high; no-value = λ h. goes }
+next-in-range x Next v s goes low high few = record {
+  kinds = omega arith;
+  from-1 = x .«some_period»;
+  periods = few;
+  member = x .member;
+  value = value-below (v .limbs) (v .four) (v .fit);
+  first-step = λ h. absurd (omega arith);
+  later-step = λ h. low;
+  steps = λ h. high;
+  no-value = λ h. absurd (omega arith);
+}
+next-in-range x NextNone v s goes low high few = record {
+  kinds = omega arith;
+  from-1 = x .«some_period»;
+  periods = few;
+  member = x .member;
+  value = value-below (v .limbs) (v .four) (v .fit);
+  first-step = λ h. absurd (omega arith);
+  later-step = λ h. low;
+  steps = λ h. high;
+  no-value = λ h. goes;
+}

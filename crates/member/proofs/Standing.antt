@@ -22,28 +22,49 @@ module _ (x : code.Member) (mem new : List ℕ) (m : Member) (h : Stands x mem m
   -- it heard a vote
   pub heard : (v : Vote) → Holds (lim x) (part of-votes (lim x) new) (v ∷ m .votes) → Only-in of-votes (lim x) mem new →
       Stands x new (with-vote v m)
-  heard v votes only = record
-      { me = h .me; period = h .period; step = h .step; start = h .start; free = h .free; certain = h .certain; agreed = h .agreed
-      ; votes = votes
-      ; proposals = subst (λ (xs : List ℕ). Proposes (lim x) xs (m .proposals)) (sym (only of-proposals refl)) (h .proposals)
-      ; blocks = ap (λ (xs : List ℕ). blocks-in xs (x .blocks)) (only of-blocks refl) ∙ h .blocks }
+  heard v votes only = record {
+    me = h .me;
+    period = h .period;
+    step = h .step;
+    start = h .start;
+    free = h .free;
+    certain = h .certain;
+    agreed = h .agreed;
+    votes = votes;
+    proposals = subst (λ (xs : List ℕ). Proposes (lim x) xs (m .proposals)) (sym (only of-proposals refl)) (h .proposals);
+    blocks = ap (λ (xs : List ℕ). blocks-in xs (x .blocks)) (only of-blocks refl) ∙ h .blocks;
+  }
 
   -- it keeps proposals
   pub kept-best : (os : List Proposal) → Proposes (lim x) (part of-proposals (lim x) new) os → Only-in of-proposals (lim x) mem new →
       Stands x new (with-proposals os m)
-  kept-best os proposals only = record
-      { me = h .me; period = h .period; step = h .step; start = h .start; free = h .free; certain = h .certain; agreed = h .agreed
-      ; votes = subst (λ (xs : List ℕ). Holds (lim x) xs (m .votes)) (sym (only of-votes refl)) (h .votes)
-      ; proposals = proposals
-      ; blocks = ap (λ (xs : List ℕ). blocks-in xs (x .blocks)) (only of-blocks refl) ∙ h .blocks }
+  kept-best os proposals only = record {
+    me = h .me;
+    period = h .period;
+    step = h .step;
+    start = h .start;
+    free = h .free;
+    certain = h .certain;
+    agreed = h .agreed;
+    votes = subst (λ (xs : List ℕ). Holds (lim x) xs (m .votes)) (sym (only of-votes refl)) (h .votes);
+    proposals = proposals;
+    blocks = ap (λ (xs : List ℕ). blocks-in xs (x .blocks)) (only of-blocks refl) ∙ h .blocks;
+  }
 
   -- its header was written
   pub headed : Only-in of-header (lim x) mem new → Stands x new m
-  headed only = record
-      { me = h .me; period = h .period; step = h .step; start = h .start; free = h .free; certain = h .certain; agreed = h .agreed
-      ; votes = subst (λ (xs : List ℕ). Holds (lim x) xs (m .votes)) (sym (only of-votes refl)) (h .votes)
-      ; proposals = subst (λ (xs : List ℕ). Proposes (lim x) xs (m .proposals)) (sym (only of-proposals refl)) (h .proposals)
-      ; blocks = ap (λ (xs : List ℕ). blocks-in xs (x .blocks)) (only of-blocks refl) ∙ h .blocks }
+  headed only = record {
+    me = h .me;
+    period = h .period;
+    step = h .step;
+    start = h .start;
+    free = h .free;
+    certain = h .certain;
+    agreed = h .agreed;
+    votes = subst (λ (xs : List ℕ). Holds (lim x) xs (m .votes)) (sym (only of-votes refl)) (h .votes);
+    proposals = subst (λ (xs : List ℕ). Proposes (lim x) xs (m .proposals)) (sym (only of-proposals refl)) (h .proposals);
+    blocks = ap (λ (xs : List ℕ). blocks-in xs (x .blocks)) (only of-blocks refl) ∙ h .blocks;
+  }
 
 -- a member with the same limits asks for the same of its memory
 module _ (x y : code.Member) (same : Same x y) where

@@ -65,8 +65,13 @@ flag-put n k false h e = rw (h, e) refl
 -- a value that may be missing is the same where its five numbers are
 pub option-same : (a b : List ℕ) (at : ℕ) → ((i : ℕ) → at ≤ i → i < at + 5 → getD b i 0 ≡ getD a i 0) → option-at b at ≡ option-at a at
 option-same a b at same =
-    rw (same at (omega arith) (omega arith), same (at + 1) (omega arith) (omega arith), same (at + 1 + 1) (omega arith) (omega arith)
-       , same (at + 1 + 2) (omega arith) (omega arith), same (at + 1 + 3) (omega arith) (omega arith)) refl
+    rw (
+      same at (omega arith) (omega arith),
+      same (at + 1) (omega arith) (omega arith),
+      same (at + 1 + 1) (omega arith) (omega arith),
+      same (at + 1 + 2) (omega arith) (omega arith),
+      same (at + 1 + 3) (omega arith) (omega arith),
+    ) refl
 
 module _ (m₀ m₁ m₂ m₃ : List ℕ) (place-only : Only 6 11 m₀ m₁) (start-only : Only 11 16 m₁ m₂) (agreed-only : Only 16 21 m₂ m₃) where
   pub stored-only : Only 0 64 m₀ m₃
@@ -80,27 +85,30 @@ module _ (m₀ m₁ m₂ m₃ : List ℕ) (place-only : Only 6 11 m₀ m₁) (st
   inner i h = agreed-only i (inl (omega arith)) ∙ start-only i (inl (omega arith))
 
   stored-asks : length m₃ ≡ length m₀ → (l : Limits) → Asks m₀ l → Asks m₃ l
-  stored-asks long l h = record
-      { marked = before 0 (omega arith) ∙ h .marked
-      ; members = before 1 (omega arith) ∙ h .members
-      ; periods = before 2 (omega arith) ∙ h .periods
-      ; steps = before 3 (omega arith) ∙ h .steps
-      ; blocks = before 4 (omega arith) ∙ h .blocks
-      ; long = omega (arith, long, h .long) }
+  stored-asks long l h = record {
+    marked = before 0 (omega arith) ∙ h .marked;
+    members = before 1 (omega arith) ∙ h .members;
+    periods = before 2 (omega arith) ∙ h .periods;
+    steps = before 3 (omega arith) ∙ h .steps;
+    blocks = before 4 (omega arith) ∙ h .blocks;
+    long = omega (arith, long, h .long);
+  }
 
   stored-place : (x : Member) → Place m₁ x → Place m₃ x
-  stored-place x h = record
-      { period = inner 6 (omega arith) ∙ h .period
-      ; step = inner 7 (omega arith) ∙ h .step
-      ; free = rw (inner 8 (omega arith)) (h .free)
-      ; certain = rw (inner 9 (omega arith)) (h .certain)
-      ; blocks = inner 10 (omega arith) ∙ h .blocks }
+  stored-place x h = record {
+    period = inner 6 (omega arith) ∙ h .period;
+    step = inner 7 (omega arith) ∙ h .step;
+    free = rw (inner 8 (omega arith)) (h .free);
+    certain = rw (inner 9 (omega arith)) (h .certain);
+    blocks = inner 10 (omega arith) ∙ h .blocks;
+  }
 
   pub stored : (y : Member) → Place m₁ y → option-at m₂ 11 ≡ listed (y .start) → option-at m₃ 16 ≡ listed (y .agreed) →
       length m₃ ≡ length m₀ → Asks m₀ (y .limits) → getD m₀ 5 0 ≡ y .me → Header m₃ y
-  stored y place start agreed long asks me = record
-      { asks = stored-asks long (y .limits) asks
-      ; me = before 5 (omega arith) ∙ me
-      ; place = stored-place y place
-      ; start = option-same m₂ m₃ 11 (λ i low high. agreed-only i (inl (omega arith))) ∙ start
-      ; agreed = agreed }
+  stored y place start agreed long asks me = record {
+    asks = stored-asks long (y .limits) asks;
+    me = before 5 (omega arith) ∙ me;
+    place = stored-place y place;
+    start = option-same m₂ m₃ 11 (λ i low high. agreed-only i (inl (omega arith))) ∙ start;
+    agreed = agreed;
+  }

@@ -61,13 +61,13 @@ module _ (l : Limits) (f g : ℕ → Bool) where
   same-certainly : (d : Outcome) → certainly (with-takes f l) d ≡ certainly (with-takes g l) d
   same-certainly d =
       ap (λ (xs : List ℕ). cond (eqb (d .member .step) 1 && not (d .member .certain)) (say-cert xs d) d)
-          (same-chosen (d .member .period) (d .member .votes) (d .member .votes) (d .member .blocks))
+      (same-chosen (d .member .period) (d .member .votes) (d .member .votes) (d .member .blocks))
 
   same-agree : (d : Outcome) → agree (with-takes f l) d ≡ agree (with-takes g l) d
   same-agree d =
       ap (λ (xs : List ℕ). record
-            { member = cond (is-some (d .member .agreed)) (d .member) (agree-on xs (d .member)); out = d .out })
-          (same-certified (d .member .votes) (d .member .votes) (d .member .blocks))
+      { member = cond (is-some (d .member .agreed)) (d .member) (agree-on xs (d .member)); out = d .out })
+      (same-certified (d .member .votes) (d .member .votes) (d .member .blocks))
 
   same-settle : (d : Outcome) → settle (with-takes f l) d ≡ settle (with-takes g l) d
   same-settle d =
@@ -81,8 +81,8 @@ module _ (l : Limits) (f g : ℕ → Bool) where
   same-timeout : (m : Member) → on-timeout (with-takes f l) m ≡ on-timeout (with-takes g l) m
   same-timeout m =
       ap (λ (xs : List ℕ). cond (eqb (m .step) 0) (say-soft (soft-value m) (silent (at-step 1 m)))
-            (say (next-vote m (suc (m .step)) xs) (silent (at-step (suc (m .step)) m))))
-          (same-chosen (m .period) (m .votes) (m .votes) (m .blocks))
+      (say (next-vote m (suc (m .step)) xs) (silent (at-step (suc (m .step)) m))))
+      (same-chosen (m .period) (m .votes) (m .votes) (m .blocks))
 
   pub same-does : (m : Member) (e : Event) → does (with-takes f l) m e ≡ does (with-takes g l) m e
   unfolding does
@@ -111,8 +111,8 @@ module _ (l : Limits) (f g : ℕ → Bool) (hf : All-taken f) (hg : All-taken g)
   pub same-answer : (m : Member) (e : Event) → answer (with-takes f l) m e ≡ answer (with-takes g l) m e
   same-answer m e =
       λ i. cond (eqb (same-refusal m e i) not-refused)
-          (says (same-does l f g m e i .out) (same-does l f g m e i .member .agreed))
-          (refused (same-refusal m e i) (place e))
+      (says (same-does l f g m e i .out) (same-does l f g m e i .member .agreed))
+      (refused (same-refusal m e i) (place e))
 
   pub same-after : (m : Member) (e : Event) → after (with-takes f l) m e ≡ after (with-takes g l) m e
   same-after m e = λ i. cond (eqb (same-refusal m e i) not-refused) (same-does l f g m e i .member) m

@@ -51,7 +51,7 @@ May-be-certain m = (x : ℕ) → m .step ≡ 1 → m .certain ≡ false → slot
 abbrev pub on-to : protocol.Limits → protocol.Vote → List ℕ → Bool → Of-member → Of-member
 on-to l v start free m =
     cond (leb (m .period) (v .period) && has-quorum l (v .kind) (v .period) (v .step) (v .value) (m .votes))
-        (in-period (suc (v .period)) start free m) m
+    (in-period (suc (v .period)) start free m) m
 
 -- if it has not agreed and this is a cert vote with a quorum whose block is here, it agrees on its value
 abbrev pub agree-by : protocol.Limits → protocol.Vote → Of-member → Of-member

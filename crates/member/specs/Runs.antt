@@ -9,9 +9,10 @@ use Rattle.member.specs.Calls.{Opened, Called}
 
 -- a member is opened in memory of numbers of eight bytes, no more than its limits ask for, and then called
 abbrev pub running : Contract
-running = record
-    { Opened = λ l i mem. Opened l i mem × ((length mem ≤ memory-size l) × (all-words mem ≡ true))
-    ; Called = Called }
+running = record {
+  Opened = λ l i mem. Opened l i mem × ((length mem ≤ memory-size l) × (all-words mem ≡ true));
+  Called = Called;
+}
 
 -- over every run, and for every program that meets the contracts
 abbrev pub Right-stands : (ℕ → Bool) → Type 0

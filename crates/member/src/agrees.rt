@@ -23,8 +23,28 @@ impl Member {
         ensures is { λ r. ⌜ ((mem : List ℕ) (m : Of-member) → Stands self mem m → Stands r mem (having-agreed (value-of value) m)) ⌝ }
         ensures same { λ r. ⌜ Same self r ⌝ }
     {
-        let Member { limits, me, period, step, start, free, certain, blocks, agreed: _ } = self;
-        Member { limits, me, period, step, start, free, certain, blocks, agreed: Some(value) }
+        let Member {
+            limits,
+            me,
+            period,
+            step,
+            start,
+            free,
+            certain,
+            blocks,
+            agreed: _,
+        } = self;
+        Member {
+            limits,
+            me,
+            period,
+            step,
+            start,
+            free,
+            certain,
+            blocks,
+            agreed: Some(value),
+        }
     }
 
     // Agrees on the value of a cert vote that has a quorum and whose block is here, if it has not agreed.

@@ -80,7 +80,12 @@ fn event_in_range(limits: Limits, event: Event) -> bool
 {
     match event {
         Event::Vote(vote) => vote_in_range(limits, vote),
-        Event::Proposal(proposal) => proposal_in_range(limits, proposal.period, proposal.rank, proposal.value),
+        Event::Proposal(proposal) => proposal_in_range(
+            limits,
+            proposal.period,
+            proposal.rank,
+            proposal.value,
+        ),
         Event::Block(_) => true,
         Event::Timeout => true,
     }
@@ -115,7 +120,7 @@ impl Member {
         requires vote { ⌜ vote-in-range (lim self) (vote-of vote) ≡ true ⌝ }
         ensures is { λ r. ⌜ ((m : Of-member) → Stands self (now (memory .entry)) m →
             Cases r ((slot-taken (vote-of vote) (m .votes) || eqb (vote .from) (m .me)) ≡ true)
-                (λ _. (slot-taken (vote-of vote) (m .votes) ≡ false) × (vote .from ≡ m .me → ⊥))) ⌝ }
+            (λ _. (slot-taken (vote-of vote) (m .votes) ≡ false) × (vote .from ≡ m .me → ⊥))) ⌝ }
         ensures same { λ r. ⌜ found r (λ v. v ≡ vote) ⌝ }
     {
         if is_taken(memory, self.limits, vote) {

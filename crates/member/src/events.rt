@@ -80,8 +80,28 @@ impl Member {
             blocks-in (part of-blocks (lim self) new) blocks ≡ xs → Stands r new (with-blocks xs m)) ⌝ }
         ensures same { λ r. ⌜ Same self r ⌝ }
     {
-        let Member { limits, me, period, step, start, free, certain, blocks: _, agreed } = self;
-        Member { limits, me, period, step, start, free, certain, blocks, agreed }
+        let Member {
+            limits,
+            me,
+            period,
+            step,
+            start,
+            free,
+            certain,
+            blocks: _,
+            agreed,
+        } = self;
+        Member {
+            limits,
+            me,
+            period,
+            step,
+            start,
+            free,
+            certain,
+            blocks,
+            agreed,
+        }
     }
 
     // A block comes for which there is room: then certain, agree.

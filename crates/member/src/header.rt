@@ -78,7 +78,17 @@ pub(crate) fn load(memory: &[u64]) -> Option<Member>
     let certain = memory[9] != 0;
     let start = option_at(memory, 11);
     let agreed = option_at(memory, 16);
-    Some(Member { limits, me, period, step, start, free, certain, blocks, agreed })
+    Some(Member {
+        limits,
+        me,
+        period,
+        step,
+        start,
+        free,
+        certain,
+        blocks,
+        agreed,
+    })
 }
 
 fn put_place(memory: &mut [u64], member: Member)

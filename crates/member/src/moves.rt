@@ -29,8 +29,28 @@ impl Member {
         ensures step { λ r. ⌜ r .step ≡ step ⌝ }
         ensures same { λ r. ⌜ Same self r ⌝ }
     {
-        let Member { limits, me, period, step: _, start, free, certain, blocks, agreed } = self;
-        Member { limits, me, period, step, start, free, certain, blocks, agreed }
+        let Member {
+            limits,
+            me,
+            period,
+            step: _,
+            start,
+            free,
+            certain,
+            blocks,
+            agreed,
+        } = self;
+        Member {
+            limits,
+            me,
+            period,
+            step,
+            start,
+            free,
+            certain,
+            blocks,
+            agreed,
+        }
     }
 
     // Certain in this period.
@@ -38,8 +58,28 @@ impl Member {
         ensures is { λ r. ⌜ ((mem : List ℕ) (m : Of-member) → Stands self mem m → Stands r mem (now-certain m)) ⌝ }
         ensures same { λ r. ⌜ Same self r ⌝ }
     {
-        let Member { limits, me, period, step, start, free, certain: _, blocks, agreed } = self;
-        Member { limits, me, period, step, start, free, certain: true, blocks, agreed }
+        let Member {
+            limits,
+            me,
+            period,
+            step,
+            start,
+            free,
+            certain: _,
+            blocks,
+            agreed,
+        } = self;
+        Member {
+            limits,
+            me,
+            period,
+            step,
+            start,
+            free,
+            certain: true,
+            blocks,
+            agreed,
+        }
     }
 
     // A period begins: with a value, or free.
@@ -49,8 +89,28 @@ impl Member {
         ensures is { λ r. ⌜ ((mem : List ℕ) (m : Of-member) → Stands self mem m → Stands r mem (in-period period (listed start) free m)) ⌝ }
         ensures same { λ r. ⌜ Same self r ⌝ }
     {
-        let Member { limits, me, period: _, step: _, start: _, free: _, certain: _, blocks, agreed } = self;
-        Member { limits, me, period, step: 0, start, free, certain: false, blocks, agreed }
+        let Member {
+            limits,
+            me,
+            period: _,
+            step: _,
+            start: _,
+            free: _,
+            certain: _,
+            blocks,
+            agreed,
+        } = self;
+        Member {
+            limits,
+            me,
+            period,
+            step: 0,
+            start,
+            free,
+            certain: false,
+            blocks,
+            agreed,
+        }
     }
 
     // A vote of its own, in its period.
@@ -58,7 +118,13 @@ impl Member {
         ensures is { λ r. ⌜ ((mem : List ℕ) (m : Of-member) → Stands self mem m → vote-of r ≡ own m (kind-number kind) step (value-of value)) ⌝ }
         ensures fields { λ r. ⌜ vote-of r ≡ own-vote self (kind-number kind) step (value-of value) ⌝ }
     {
-        Vote { kind: kind.number(), period: self.period, step, value, from: self.me }
+        Vote {
+            kind: kind.number(),
+            period: self.period,
+            step,
+            value,
+            from: self.me,
+        }
     }
 
     // The chosen value of its period.

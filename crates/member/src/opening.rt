@@ -53,7 +53,14 @@ fn write_new(memory: &mut [u64], limits: Limits, me: u64)
 }
 
 // Opens member `me` in the memory lent, whatever was there before; or says why not, and changes nothing.
-pub fn open(memory: &mut [u64], members: u64, periods: u64, steps: u64, blocks: u64, me: u64) -> Result<(), OpenError>
+pub fn open(
+    memory: &mut [u64],
+    members: u64,
+    periods: u64,
+    steps: u64,
+    blocks: u64,
+    me: u64,
+) -> Result<(), OpenError>
     ensures is { λ r. ⌜ By-open members periods steps blocks me (now (memory .entry)) (now (memory .exit)) r ⌝ }
 {
     let limits = match Limits::new(members, periods, steps, blocks) {

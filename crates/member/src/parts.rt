@@ -99,7 +99,7 @@ pub(crate) fn chosen_of(memory: &[u64], limits: Limits, period: u64, count: u64)
     requires blocks { ⌜ count ≤ limits .blocks ⌝ }
     ensures is { λ r. ⌜ ((vs : Votes) → Holds (limits-of all limits) (part of-votes (limits-of all limits) (now (memory .entry))) vs →
         listed r ≡ chosen-in (limits-of all limits) period vs vs
-            (blocks-in (part of-blocks (limits-of all limits) (now (memory .entry))) count)) ⌝ }
+        (blocks-in (part of-blocks (limits-of all limits) (now (memory .entry))) count)) ⌝ }
 {
     let votes = &memory[64..votes_end(limits)];
     let blocks = &memory[proposals_end(limits)..blocks_end(limits)];
@@ -123,7 +123,11 @@ pub(crate) fn proposed_of(memory: &[u64], limits: Limits, period: u64) -> Option
     ensures is { λ r. ⌜ ((os : Proposals) → Proposes (limits-of all limits) (part of-proposals (limits-of all limits) (now (memory .entry))) os →
         listed r ≡ proposed period os) ⌝ }
 {
-    proposed_for(&memory[votes_end(limits)..proposals_end(limits)], limits, period)
+    proposed_for(
+        &memory[votes_end(limits)..proposals_end(limits)],
+        limits,
+        period,
+    )
 }
 
 // Keeps a proposal, if it is the best of its period.
@@ -146,7 +150,11 @@ pub(crate) fn is_here(memory: &[u64], limits: Limits, count: u64, value: Value) 
     requires blocks { ⌜ count ≤ limits .blocks ⌝ }
     ensures is { λ r. ⌜ r ≡ is-in (value-of value) (blocks-in (part of-blocks (limits-of all limits) (now (memory .entry))) count) ⌝ }
 {
-    has_block(&memory[proposals_end(limits)..blocks_end(limits)], count, value)
+    has_block(
+        &memory[proposals_end(limits)..blocks_end(limits)],
+        count,
+        value,
+    )
 }
 
 // Adds a block for which there is room, unless it is here; how many there are then.

@@ -3,9 +3,9 @@ use limits::Limits;
 use std::env;
 use std::error::AnyError;
 use std::fs;
+use text::NetworkErrorDisplay;
 use text::cut;
 use text::read_network;
-use text::NetworkErrorDisplay;
 
 // The first line of a text, without its line feed.
 fn first_line(text: &[u8]) -> &[u8] {
@@ -22,7 +22,10 @@ fn show(rt: &LibcRuntime, limits: Limits) -> Result<(), AnyError> {
     let blocks = limits.blocks;
     let quorum = limits.quorum();
     let memory = limits.memory_bytes();
-    println!(rt, "network {members} {periods} {steps} {blocks}: quorum {quorum}, memory {memory} bytes a member")?;
+    println!(
+        rt,
+        "network {members} {periods} {steps} {blocks}: quorum {quorum}, memory {memory} bytes a member"
+    )?;
     Ok(())
 }
 

@@ -27,13 +27,13 @@ module _ (can : ℕ → Bool) (c : Contract) (f : Program) (meets : Meets can c 
   program-right right l i es e good h r =
       let parts : (readable e ≡ true) × (all-readable es ≡ true) = readable-parts e es r in
       right l i es (memory-of f l i es) good h (program-runs l i es good h (parts .1)) e _ _ (parts .0)
-          (meets .calls (memory-of f l i es) e (parts .0))
+      (meets .calls (memory-of f l i es) e (parts .0))
 
   pub program-refusal-keeps : Runs-refusal-keeps can c → Refusal-keeps can f
   program-refusal-keeps keeps l i es e good h r turned =
       let parts : (readable e ≡ true) × (all-readable es ≡ true) = readable-parts e es r in
       keeps l i es (memory-of f l i es) good h (program-runs l i es good h (parts .1)) e _ _ (parts .0)
-          (meets .calls (memory-of f l i es) e (parts .0)) turned
+      (meets .calls (memory-of f l i es) e (parts .0)) turned
 
   pub program-enough-memory : Runs-enough-memory can c → Enough-memory can f
   program-enough-memory enough l i es good h r = enough l i es (memory-of f l i es) good h (program-runs l i es good h r)

@@ -24,8 +24,8 @@ reached l faulty w (row ∷ rows) r h =
     let who : _ = and-parts _ _ (here .0) in
     let honest : _ = and-parts _ _ (who .0) in
     reached l faulty (deliver l w (row .to) (row .event)) rows
-        (happens (row .to) (row .event) r (ltb-true _ _ (honest .0)) (not-true _ (honest .1)) (who .1))
-        (here .1)
+    (happens (row .to) (row .event) r (ltb-true _ _ (honest .0)) (not-true _ (honest .1)) (who .1))
+    (here .1)
 
 pub two-ways-stands : Worked four third-faulty two-ways
 unfolding computing

@@ -39,45 +39,125 @@ pub record Member : Type 0 where
 
 abbrev pub new-member : ℕ → Member
 new-member i =
-    record { me = i; period = 1; step = 0; start = []; free = true; certain = false; votes = []; proposals = []; blocks = []
-           ; agreed = [] }
+    record {
+      me = i;
+      period = 1;
+      step = 0;
+      start = [];
+      free = true;
+      certain = false;
+      votes = [];
+      proposals = [];
+      blocks = [];
+      agreed = [];
+    }
 
 -- One part changed, the others kept.
 abbrev pub with-vote : Vote → Member → Member
 with-vote v m =
-    record { me = m .me; period = m .period; step = m .step; start = m .start; free = m .free; certain = m .certain
-           ; votes = v ∷ m .votes; proposals = m .proposals; blocks = m .blocks; agreed = m .agreed }
+    record {
+      me = m .me;
+      period = m .period;
+      step = m .step;
+      start = m .start;
+      free = m .free;
+      certain = m .certain;
+      votes = v ∷ m .votes;
+      proposals = m .proposals;
+      blocks = m .blocks;
+      agreed = m .agreed;
+    }
 
 abbrev pub with-proposals : List Proposal → Member → Member
 with-proposals os m =
-    record { me = m .me; period = m .period; step = m .step; start = m .start; free = m .free; certain = m .certain
-           ; votes = m .votes; proposals = os; blocks = m .blocks; agreed = m .agreed }
+    record {
+      me = m .me;
+      period = m .period;
+      step = m .step;
+      start = m .start;
+      free = m .free;
+      certain = m .certain;
+      votes = m .votes;
+      proposals = os;
+      blocks = m .blocks;
+      agreed = m .agreed;
+    }
 
 abbrev pub with-blocks : List ℕ → Member → Member
 with-blocks bs m =
-    record { me = m .me; period = m .period; step = m .step; start = m .start; free = m .free; certain = m .certain
-           ; votes = m .votes; proposals = m .proposals; blocks = bs; agreed = m .agreed }
+    record {
+      me = m .me;
+      period = m .period;
+      step = m .step;
+      start = m .start;
+      free = m .free;
+      certain = m .certain;
+      votes = m .votes;
+      proposals = m .proposals;
+      blocks = bs;
+      agreed = m .agreed;
+    }
 
 abbrev pub at-step : ℕ → Member → Member
 at-step s m =
-    record { me = m .me; period = m .period; step = s; start = m .start; free = m .free; certain = m .certain
-           ; votes = m .votes; proposals = m .proposals; blocks = m .blocks; agreed = m .agreed }
+    record {
+      me = m .me;
+      period = m .period;
+      step = s;
+      start = m .start;
+      free = m .free;
+      certain = m .certain;
+      votes = m .votes;
+      proposals = m .proposals;
+      blocks = m .blocks;
+      agreed = m .agreed;
+    }
 
 abbrev pub now-certain : Member → Member
 now-certain m =
-    record { me = m .me; period = m .period; step = m .step; start = m .start; free = m .free; certain = true
-           ; votes = m .votes; proposals = m .proposals; blocks = m .blocks; agreed = m .agreed }
+    record {
+      me = m .me;
+      period = m .period;
+      step = m .step;
+      start = m .start;
+      free = m .free;
+      certain = true;
+      votes = m .votes;
+      proposals = m .proposals;
+      blocks = m .blocks;
+      agreed = m .agreed;
+    }
 
 -- a period begins: with a value, or free
 abbrev pub in-period : ℕ → List ℕ → Bool → Member → Member
 in-period p x f m =
-    record { me = m .me; period = p; step = 0; start = x; free = f; certain = false
-           ; votes = m .votes; proposals = m .proposals; blocks = m .blocks; agreed = m .agreed }
+    record {
+      me = m .me;
+      period = p;
+      step = 0;
+      start = x;
+      free = f;
+      certain = false;
+      votes = m .votes;
+      proposals = m .proposals;
+      blocks = m .blocks;
+      agreed = m .agreed;
+    }
 
 abbrev pub having-agreed : ℕ → Member → Member
 having-agreed x m =
-    record { me = m .me; period = m .period; step = m .step; start = m .start; free = m .free; certain = m .certain
-           ; votes = m .votes; proposals = m .proposals; blocks = m .blocks; agreed = x ∷ [] }
+    record {
+      me = m .me;
+      period = m .period;
+      step = m .step;
+      start = m .start;
+      free = m .free;
+      certain = m .certain;
+      votes = m .votes;
+      proposals = m .proposals;
+      blocks = m .blocks;
+      agreed = x ∷ [];
+    }
 
 -- EVENTS AND ANSWERS
 
@@ -134,7 +214,7 @@ unfoldable pub chosen-in : Limits → ℕ → List Vote → List Vote → List �
 chosen-in l p [] vs bs = []
 chosen-in l p (w ∷ ws) vs bs =
     cond ((eqb (w .kind) soft && eqb (w .period) p) && (has-quorum l soft p 0 (w .value) vs && is-in (w .value) bs))
-        (w .value ∷ []) (chosen-in l p ws vs bs)
+    (w .value ∷ []) (chosen-in l p ws vs bs)
 
 abbrev pub chosen : Limits → Member → List ℕ
 chosen l m = chosen-in l (m .period) (m .votes) (m .votes) (m .blocks)
@@ -144,7 +224,7 @@ unfoldable pub certified-in : Limits → List Vote → List Vote → List ℕ �
 certified-in l [] vs bs = []
 certified-in l (w ∷ ws) vs bs =
     cond (eqb (w .kind) cert && (has-quorum l cert (w .period) 0 (w .value) vs && is-in (w .value) bs))
-        (w .value ∷ []) (certified-in l ws vs bs)
+    (w .value ∷ []) (certified-in l ws vs bs)
 
 abbrev pub certified : Limits → Member → List ℕ
 certified l m = certified-in l (m .votes) (m .votes) (m .blocks)
@@ -202,18 +282,20 @@ next-vote m s [] = cond (m .free) (own m next-none s 0) (own m next s (first-or-
 abbrev pub on-timeout : Limits → Member → Outcome
 on-timeout l m =
     cond (eqb (m .step) 0)
-        (say-soft (soft-value m) (silent (at-step 1 m)))
-        (say (next-vote m (suc (m .step)) (chosen l m)) (silent (at-step (suc (m .step)) m)))
+    (say-soft (soft-value m) (silent (at-step 1 m)))
+    (say (next-vote m (suc (m .step)) (chosen l m)) (silent (at-step (suc (m .step)) m)))
 
 -- After the event itself, three rules follow, in this order.
 -- onward: after a vote to go on, of its period or a later one, for which there is now a quorum, it is in the period after
 abbrev pub onward : Limits → Vote → Outcome → Outcome
 onward l v d =
     cond ((leb next (v .kind) && leb (d .member .period) (v .period))
-          && has-quorum l (v .kind) (v .period) (v .step) (v .value) (d .member .votes))
-        (record { member = in-period (suc (v .period)) (cond (eqb (v .kind) next) (v .value ∷ []) []) (eqb (v .kind) next-none) (d .member)
-                ; out = d .out })
-        d
+    && has-quorum l (v .kind) (v .period) (v .step) (v .value) (d .member .votes))
+    (record {
+      member = in-period (suc (v .period)) (cond (eqb (v .kind) next) (v .value ∷ []) []) (eqb (v .kind) next-none) (d .member);
+      out = d .out;
+    })
+    d
 
 unfoldable pub onward-all : Limits → List Vote → Outcome → Outcome
 onward-all l [] d = d
@@ -234,8 +316,10 @@ agree-on (x ∷ xs) m = having-agreed x m
 
 abbrev pub agree : Limits → Outcome → Outcome
 agree l d =
-    record { member = cond (is-some (d .member .agreed)) (d .member) (agree-on (certified l (d .member)) (d .member))
-           ; out = d .out }
+    record {
+      member = cond (is-some (d .member .agreed)) (d .member) (agree-on (certified l (d .member)) (d .member));
+      out = d .out;
+    }
 
 -- certain, then onward for all that it said now, then agree
 abbrev pub settle : Limits → Outcome → Outcome
@@ -254,9 +338,9 @@ does l m (unreadable n) = silent m
 unfoldable pub vote-in-range : Limits → Vote → Bool
 vote-in-range l v =
     ((leb (v .kind) next-none && (leb 1 (v .period) && leb (v .period) (l .periods)))
-     && (ltb (v .from) (l .members) && ltb (v .value) value-bound))
+    && (ltb (v .from) (l .members) && ltb (v .value) value-bound))
     && (cond (ltb (v .kind) next) (eqb (v .step) 0) (leb 2 (v .step) && leb (v .step) (suc (l .steps)))
-        && cond (eqb (v .kind) next-none) (eqb (v .value) 0) true)
+    && cond (eqb (v .kind) next-none) (eqb (v .value) 0) true)
 
 unfoldable pub in-range : Limits → Event → Bool
 in-range l (got-vote v) = vote-in-range l v
@@ -286,9 +370,9 @@ last-refusal l m (unreadable n) = not-refused
 abbrev pub refusal : Limits → Member → Event → ℕ
 refusal l m e =
     cond (not (is-event e)) no-event
-        (cond (not (l .takes (event-number e) && in-range l e)) out-of-range
-            (cond (is-some (m .agreed)) agreed-before
-                (last-refusal l m e)))
+    (cond (not (l .takes (event-number e) && in-range l e)) out-of-range
+    (cond (is-some (m .agreed)) agreed-before
+    (last-refusal l m e)))
 
 unfoldable pub place : Event → ℕ
 place (unreadable n) = n
@@ -302,8 +386,8 @@ place timeout = 0
 abbrev pub answer : Limits → Member → Event → Answer
 answer l m e =
     cond (eqb (refusal l m e) not-refused)
-        (says (does l m e .out) (does l m e .member .agreed))
-        (refused (refusal l m e) (place e))
+    (says (does l m e .out) (does l m e .member .agreed))
+    (refused (refusal l m e) (place e))
 
 abbrev pub after : Limits → Member → Event → Member
 after l m e = cond (eqb (refusal l m e) not-refused) (does l m e .member) m

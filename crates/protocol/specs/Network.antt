@@ -24,8 +24,10 @@ votes-of (says vs x) = vs
 -- an event comes to member i
 abbrev pub deliver : Limits → Network → ℕ → Event → Network
 deliver l w i e =
-    record { member = λ j. cond (eqb i j) (after l (w .member i) e) (w .member j)
-           ; said = votes-of (answer l (w .member i) e) ++ w .said }
+    record {
+      member = λ j. cond (eqb i j) (after l (w .member i) e) (w .member j);
+      said = votes-of (answer l (w .member i) e) ++ w .said;
+    }
 
 -- A vote can come if an honest member said it, or it is in a faulty one's name: nobody speaks in an honest one's name.
 abbrev pub can-come : (ℕ → Bool) → Network → Vote → Bool

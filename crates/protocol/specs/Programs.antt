@@ -63,7 +63,7 @@ In-runs can c P =
 abbrev pub In-calls : (ℕ → Bool) → Contract → (Limits → ℕ → List Event → List ℕ → Event → List ℕ → Answer → Type 0) → Type 0
 In-calls can c P =
     In-runs can c (λ l i es mem. (e : Event) (mem′ : List ℕ) (a : Answer) → readable e ≡ true → c .Called mem e mem′ a →
-        P l i es mem e mem′ a)
+    P l i es mem e mem′ a)
 
 -- THE MAIN PROMISE OF ONE MEMBER: after any events, the answer is what the definitions say.
 abbrev pub Runs-right : (ℕ → Bool) → Contract → Type 0

@@ -44,7 +44,7 @@ One-certified can =
 abbrev pub One-agreed : (ℕ → Bool) → Type 0
 One-agreed can =
     Ever can (λ l faulty w. (i j a b : ℕ) → i < l .members → j < l .members → faulty i ≡ false → faulty j ≡ false →
-        w .member i .agreed ≡ a ∷ [] → w .member j .agreed ≡ b ∷ [] → a ≡ b)
+    w .member i .agreed ≡ a ∷ [] → w .member j .agreed ≡ b ∷ [] → a ≡ b)
 
 -- THE EIGHT STATEMENTS
 
@@ -52,7 +52,7 @@ One-agreed can =
 abbrev pub clash : Vote → Vote → Bool
 clash v w =
     ((eqb (v .from) (w .from) && eqb (v .period) (w .period))
-     && (eqb (v .step) (w .step) && eqb (cond (leb next (v .kind)) next (v .kind)) (cond (leb next (w .kind)) next (w .kind))))
+    && (eqb (v .step) (w .step) && eqb (cond (leb next (v .kind)) next (v .kind)) (cond (leb next (w .kind)) next (w .kind))))
     && not (eqb (v .kind) (w .kind) && eqb (v .value) (w .value))
 
 unfoldable pub clash-any : Vote → List Vote → Bool
@@ -72,13 +72,13 @@ Says-one-thing can = Ever can (λ l faulty w. no-clash (w .said) ≡ true)
 abbrev pub Agreed-has-both : (ℕ → Bool) → Type 0
 Agreed-has-both can =
     Ever can (λ l faulty w. (i a : ℕ) → i < l .members → faulty i ≡ false → w .member i .agreed ≡ a ∷ [] →
-        (is-in a (w .member i .blocks) ≡ true) × ((p : ℕ) × ((vs : List Vote) × Certificate l faulty w p a vs)))
+    (is-in a (w .member i .blocks) ≡ true) × ((p : ℕ) × ((vs : List Vote) × Certificate l faulty w p a vs)))
 
 -- 3. Two honest members in one period have no two chosen values.
 abbrev pub One-chosen : (ℕ → Bool) → Type 0
 One-chosen can =
     Ever can (λ l faulty w. (i j a b : ℕ) → i < l .members → j < l .members → faulty i ≡ false → faulty j ≡ false →
-        w .member i .period ≡ w .member j .period → chosen l (w .member i) ≡ a ∷ [] → chosen l (w .member j) ≡ b ∷ [] → a ≡ b)
+    w .member i .period ≡ w .member j .period → chosen l (w .member i) ≡ a ∷ [] → chosen l (w .member j) ≡ b ∷ [] → a ≡ b)
 
 -- 4. Periods only go on.
 abbrev pub Periods-go-on : Type 0
@@ -111,7 +111,7 @@ Turned-away = (l : Limits) (m : Member) (e : Event) → 0 < refusal l m e → af
 abbrev pub Heard-has-bundle : (ℕ → Bool) → Type 0
 Heard-has-bundle can =
     Ever can (λ l faulty w. (i k p s x : ℕ) → i < l .members → faulty i ≡ false → has-quorum l k p s x (w .member i .votes) ≡ true →
-        (vs : List Vote) × Bundle l faulty w k p s x vs)
+    (vs : List Vote) × Bundle l faulty w k p s x vs)
 
 -- There is one way to go on from a step of a period: never with a value and with none, nor with two values. So no
 -- member that began a period with a value is ever made free again by a second quorum of the same step.
@@ -126,7 +126,7 @@ One-way-on can = Ever can One-way
 abbrev pub Locked-after : (ℕ → Bool) → Type 0
 Locked-after can =
     Ever can (λ l faulty w. (p a i : ℕ) (vs : List Vote) → Certificate l faulty w p a vs → i < l .members → faulty i ≡ false →
-        p < w .member i .period → (w .member i .start ≡ a ∷ []) × (w .member i .free ≡ false))
+    p < w .member i .period → (w .member i .start ≡ a ∷ []) × (w .member i .free ≡ false))
 
 -- No vote is said twice by an honest member.
 unfoldable pub no-repeat : List Vote → Bool

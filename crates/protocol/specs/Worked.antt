@@ -24,8 +24,16 @@ pub record Row : Type 0 where
 -- the answer and the state that the definitions give to a row's event
 abbrev pub computed : Row → Answer → Member → Row
 computed r a m =
-    record { to = r .to; event = r .event; answer = a; period = m .period; step = m .step; start = m .start; free = m .free
-           ; agreed = m .agreed }
+    record {
+      to = r .to;
+      event = r .event;
+      answer = a;
+      period = m .period;
+      step = m .step;
+      start = m .start;
+      free = m .free;
+      agreed = m .agreed;
+    }
 
 -- the rows with what the definitions compute for their events, one after the other
 unfoldable pub played : Limits → Network → List Row → List Row

@@ -95,11 +95,12 @@ module _ (said : Vote → Bool) (Could : ℕ → ℕ → ℕ → ℕ → Type 0)
   -- 2
   pub certificate-locks : (p a : ℕ) → Could cert p 0 a → Locked Could p a
   certificate-locks p a c =
-      record
-        { only = λ s x on.
-            let (i, v, w) = quorums .certain-and-on p s a x c on in history .certain-goes-on p s a x i v w
-        ; never-none = λ s x on.
-            let (i, v, w) = quorums .certain-and-none p s a x c on in history .certain-not-none p s a x i v w }
+      record {
+        only = λ s x on.
+            let (i, v, w) = quorums .certain-and-on p s a x c on in history .certain-goes-on p s a x i v w;
+        never-none = λ s x on.
+            let (i, v, w) = quorums .certain-and-none p s a x c on in history .certain-not-none p s a x i v w;
+      }
 
   -- 3
   pub none-free : (p a : ℕ) → 1 ≤ p → Locked Could p a → Came-free Could (suc p) → ⊥
@@ -115,18 +116,19 @@ module _ (said : Vote → Bool) (Could : ℕ → ℕ → ℕ → ℕ → Type 0)
   soft-for-it p a x one lock c =
       let (i, v) = quorums .some-honest soft (suc p) 0 x c in
       elim (history .soft-because (suc p) x i v)
-          [ inl free ↦ absurd (none-free p a one lock free) | inr came ↦ came-with-it p a x lock came ]
+      [ inl free ↦ absurd (none-free p a one lock free) | inr came ↦ came-with-it p a x lock came ]
 
   pub lock-goes-on : (p a : ℕ) → 1 ≤ p → Locked Could p a → Locked Could (suc p) a
   lock-goes-on p a one lock =
-      record
-        { only = λ s x on.
+      record {
+        only = λ s x on.
             let (i, v) = quorums .some-honest next (suc p) s x on in
             elim (history .next-because (suc p) s x i v)
-                [ inl chosen ↦ soft-for-it p a x one lock chosen | inr came ↦ came-with-it p a x lock came ]
-        ; never-none = λ s x on.
+            [ inl chosen ↦ soft-for-it p a x one lock chosen | inr came ↦ came-with-it p a x lock came ];
+        never-none = λ s x on.
             let (i, v) = quorums .some-honest next-none (suc p) s x on in
-            none-free p a one lock (history .none-because (suc p) s x i v) }
+            none-free p a one lock (history .none-because (suc p) s x i v);
+      }
 
   -- 4
   pub locked-from : (p a n : ℕ) → 1 ≤ p → Could cert p 0 a → Locked Could (n + p) a
@@ -155,10 +157,11 @@ module _ (said : Vote → Bool) (Could : ℕ → ℕ → ℕ → ℕ → Type 0)
 
   pub one-certified : (p q a b : ℕ) → Could cert p 0 a → Could cert q 0 b → a ≡ b
   one-certified p q a b c d =
-      elim (cases-order p q)
-          [ inl e ↦ one-in-slot cert q 0 a b (rw e at c) d
-          | inr (inl lt) ↦ sym (later-certificate p q a b c lt d)
-          | inr (inr gt) ↦ later-certificate q p b a d gt c ]
+      elim (cases-order p q) [
+        | inl e ↦ one-in-slot cert q 0 a b (rw e at c) d
+        | inr (inl lt) ↦ sym (later-certificate p q a b c lt d)
+        | inr (inr gt) ↦ later-certificate q p b a d gt c
+      ]
 
   -- who comes to a later period came with the certified value
   pub not-free-after : (p q a : ℕ) → Could cert p 0 a → p < q → Came-free Could q → ⊥

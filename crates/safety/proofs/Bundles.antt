@@ -35,25 +35,29 @@ said-if-honest faulty w v can good = elim (or-cases _ _ can) [ inl f ↦ absurd 
 pub bundle-shows : (l : Limits) (faulty : ℕ → Bool) (w : Network) (k p s x : ℕ) (vs : List Vote) →
     Bundle l faulty w k p s x vs → Can-show l faulty w k p s x
 bundle-shows l faulty w k p s x vs b =
-    record
-      { votes = vs
-      ; fair = record { different = b .different; of-members = λ v h. comes-from l faulty w vs (b .possible) v h .0 }
-      ; possible = λ v h. said-if-honest faulty w v (comes-from l faulty w vs (b .possible) v h .1)
-      ; enough = b .enough }
+    record {
+      votes = vs;
+      fair = record { different = b .different; of-members = λ v h. comes-from l faulty w vs (b .possible) v h .0 };
+      possible = λ v h. said-if-honest faulty w v (comes-from l faulty w vs (b .possible) v h .1);
+      enough = b .enough;
+    }
 
 module _ (l : Limits) (faulty : ℕ → Bool) (w : Network) (sound : Sound l faulty w)
     (i : ℕ) (honest : Honest l faulty i) where
   pub heard-shows : (k p s x : ℕ) → Heard l (w .member i .votes) k p s x → Can-show l faulty w k p s x
   heard-shows k p s x h =
-      record
-        { votes = w .member i .votes; fair = sound .keeps i honest .heard .fair
-        ; possible = λ v at. sound .can-have-come i v honest at; enough = h }
+      record {
+        votes = w .member i .votes;
+        fair = sound .keeps i honest .heard .fair;
+        possible = λ v at. sound .can-have-come i v honest at;
+        enough = h;
+      }
 
   -- a vote that it heard can come to others too
   pub heard-comes : (v : Vote) → In v (w .member i .votes) → can-come faulty w v ≡ true
   heard-comes v at =
       elim (cases-bool (faulty (v .from)))
-          [ inl bad ↦ or-left _ _ bad | inr good ↦ or-right _ _ (sound .can-have-come i v honest at good) ]
+      [ inl bad ↦ or-left _ _ bad | inr good ↦ or-right _ _ (sound .can-have-come i v honest at good) ]
 
 -- THE VOTES OF ONE QUORUM, PICKED FROM WHAT WAS HEARD
 
@@ -88,9 +92,9 @@ module _ (k p s x : ℕ) where
           all-different (cond b (w ∷ picked k p s x ws) (picked k p s x ws)) ≡ true
       go true rest =
           and-from _ _
-              (not-from-false _ (slot-free w (picked k p s x ws)
-                  (λ v at same. free-slot w v ws (fair-first n w ws f) (picked-from v ws at) same)))
-              rest
+          (not-from-false _ (slot-free w (picked k p s x ws)
+          (λ v at same. free-slot w v ws (fair-first n w ws f) (picked-from v ws at) same)))
+          rest
       go false rest = rest
 
 pub all-come : (l : Limits) (faulty : ℕ → Bool) (w : Network) (vs : List Vote) →
@@ -105,12 +109,14 @@ pub heard-has-bundle : (l : Limits) (faulty : ℕ → Bool) (w : Network) → So
     Honest l faulty i → Heard l (w .member i .votes) k p s x → (vs : List Vote) × Bundle l faulty w k p s x vs
 heard-has-bundle l faulty w sound i k p s x honest h =
     let vs : List Vote = w .member i .votes in
-    let fair : Fair (l .members) vs = sound .keeps i honest .heard .fair in
-    ( picked k p s x vs
-    , record
-        { alike = picked-alike k p s x vs
-        ; different = picked-different k p s x (l .members) vs fair
-        ; possible = all-come l faulty w (picked k p s x vs)
+    let fair : Fair (l .members) vs = sound .keeps i honest .heard .fair in (
+      picked k p s x vs,
+      record {
+        alike = picked-alike k p s x vs;
+        different = picked-different k p s x (l .members) vs fair;
+        possible = all-come l faulty w (picked k p s x vs)
             (λ v at. let here : In v vs = picked-from k p s x v vs at in
-                     (fair .of-members v here, heard-comes l faulty w sound i honest v here))
-        ; enough = quorum-picked l k p s x vs h } )
+            (fair .of-members v here, heard-comes l faulty w sound i honest v here));
+        enough = quorum-picked l k p s x vs h;
+      },
+    )

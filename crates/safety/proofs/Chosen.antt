@@ -45,7 +45,7 @@ module _ (l : Limits) (vs : List Vote) (bs : List ℕ) where
           Heard l vs soft p 0 x × (is-in x bs ≡ true)
       go true h e rest =
           let both : Heard l vs soft p 0 (w .value) × (is-in (w .value) bs ≡ true) =
-                and-parts _ _ (and-parts _ _ h .1) in
+          and-parts _ _ (and-parts _ _ h .1) in
           rw (first-equal (w .value) x [] xs e) at both
       go false h e rest = rest e
 
@@ -66,8 +66,8 @@ module _ (l : Limits) (vs : List Vote) (bs : List ℕ) where
           let kind : w .kind ≡ soft = sym (ap (λ (v : Vote). v .kind) is) in
           let period : w .period ≡ p = sym (ap (λ (v : Vote). v .period) is) in
           both-ways _ h
-              (and-from _ _ (and-from _ _ (eq-eqb _ _ kind) (eq-eqb _ _ period))
-                  (rw (ap (λ (v : Vote). v .value) is) at (and-from _ _ q b)))
+          (and-from _ _ (and-from _ _ (eq-eqb _ _ kind) (eq-eqb _ _ period))
+          (rw (ap (λ (v : Vote). v .value) is) at (and-from _ _ q b)))
 
   pub some-chosen : (p x : ℕ) → 1 ≤ l .members → Heard l vs soft p 0 x → is-in x bs ≡ true →
       chosen-in l p vs vs bs ≡ [] → ⊥
@@ -88,7 +88,7 @@ module _ (l : Limits) (vs : List Vote) (bs : List ℕ) where
           (p : ℕ) × Heard l vs cert p 0 x × (is-in x bs ≡ true)
       go true h e rest =
           let both : Heard l vs cert (w .period) 0 (w .value) × (is-in (w .value) bs ≡ true) =
-                and-parts _ _ (and-parts _ _ h .1) in
+          and-parts _ _ (and-parts _ _ h .1) in
           let is : w .value ≡ x = first-equal (w .value) x [] xs e in
           (w .period, rw is at both .0, rw is at both .1)
       go false h e rest = rest e
@@ -110,7 +110,7 @@ module _ (l : Limits) (vs : List Vote) (bs : List ℕ) where
           let kind : w .kind ≡ cert = sym (ap (λ (v : Vote). v .kind) is) in
           let quorum : Heard l vs cert (w .period) 0 x = rw (ap (λ (v : Vote). v .period) is) at q in
           both-ways _ h
-              (and-from _ _ (eq-eqb _ _ kind) (rw (ap (λ (v : Vote). v .value) is) at (and-from _ _ quorum b)))
+          (and-from _ _ (eq-eqb _ _ kind) (rw (ap (λ (v : Vote). v .value) is) at (and-from _ _ quorum b)))
 
   pub some-certified : (p x : ℕ) → 1 ≤ l .members → Heard l vs cert p 0 x → is-in x bs ≡ true →
       certified-in l vs vs bs ≡ [] → ⊥
@@ -136,25 +136,27 @@ module _ (l : Limits) (vs : List Vote) (bs : List ℕ) where
   pub chosen-is : (p x : ℕ) → 1 ≤ l .members → Fair (l .members) vs → Heard l vs soft p 0 x → is-in x bs ≡ true →
       chosen-in l p vs vs bs ≡ x ∷ []
   chosen-is p x one fair q b =
-      elim (chosen-at-most-one p vs)
-          [ inl e ↦ absurd (some-chosen p x one q b e)
-          | inr (y, e) ↦
-              (let same : y ≡ x = quorum-one l soft p 0 y x vs one fair (chosen-has-both p y [] vs e .0) q in rw same at e) ]
+      elim (chosen-at-most-one p vs) [
+        | inl e ↦ absurd (some-chosen p x one q b e)
+        | inr (y, e) ↦
+            (let same : y ≡ x = quorum-one l soft p 0 y x vs one fair (chosen-has-both p y [] vs e .0) q in rw same at e)
+      ]
 
   pub chosen-none : (p : ℕ) → ((x : ℕ) → Heard l vs soft p 0 x → is-in x bs ≡ true → ⊥) → chosen-in l p vs vs bs ≡ []
   chosen-none p never =
       elim (chosen-at-most-one p vs)
-          [ inl e ↦ e | inr (y, e) ↦ (let (q, b) = chosen-has-both p y [] vs e in absurd (never y q b)) ]
+      [ inl e ↦ e | inr (y, e) ↦ (let (q, b) = chosen-has-both p y [] vs e in absurd (never y q b)) ]
 
   -- the only value that is certain of a quorum, with its block, is the certified one
   pub certified-is : (p x : ℕ) → 1 ≤ l .members → Heard l vs cert p 0 x → is-in x bs ≡ true →
       ((q y : ℕ) → Heard l vs cert q 0 y → is-in y bs ≡ true → y ≡ x) → certified-in l vs vs bs ≡ x ∷ []
   certified-is p x one q b only =
-      elim (certified-at-most-one vs)
-          [ inl e ↦ absurd (some-certified p x one q b e)
-          | inr (y, e) ↦ (let (r, h, c) = certified-has-both y [] vs e in rw (only r y h c) at e) ]
+      elim (certified-at-most-one vs) [
+        | inl e ↦ absurd (some-certified p x one q b e)
+        | inr (y, e) ↦ (let (r, h, c) = certified-has-both y [] vs e in rw (only r y h c) at e)
+      ]
 
   pub certified-none : ((p x : ℕ) → Heard l vs cert p 0 x → is-in x bs ≡ true → ⊥) → certified-in l vs vs bs ≡ []
   certified-none never =
       elim (certified-at-most-one vs)
-          [ inl e ↦ e | inr (y, e) ↦ (let (p, h, c) = certified-has-both y [] vs e in absurd (never p y h c)) ]
+      [ inl e ↦ e | inr (y, e) ↦ (let (p, h, c) = certified-has-both y [] vs e in absurd (never p y h c)) ]

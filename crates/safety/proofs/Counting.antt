@@ -23,9 +23,13 @@ is-vote k p s x w h =
     let b : _ = and-parts _ _ (a .0) in
     let c : _ = and-parts _ _ (b .0) in
     same-votes w (vote k p s x (w .from))
-        (record { kind = sym (eqb-true _ _ (c .0)); period = sym (eqb-true _ _ (c .1))
-                ; step = sym (eqb-true _ _ (b .1)); from = refl })
-        (sym (eqb-true _ _ (a .1)))
+    (record {
+      kind = sym (eqb-true _ _ (c .0));
+      period = sym (eqb-true _ _ (c .1));
+      step = sym (eqb-true _ _ (b .1));
+      from = refl;
+    })
+    (sym (eqb-true _ _ (a .1)))
 
 -- votes as a member hears them, or a bundle has them: none twice in one slot, and all of members
 pub record Fair (n : ℕ) (vs : List Vote) : Type 0 where
@@ -45,8 +49,10 @@ pub fair-more : (n : ℕ) (v : Vote) (vs : List Vote) → Fair n vs → slot-tak
     Fair n (v ∷ vs)
 unfolding all-different
 fair-more n v vs f free lt =
-    record { different = and-from _ _ (ap not free) (f .different)
-           ; of-members = λ w h. elim (in-cases w v vs h) [ inl e ↦ rw e lt | inr k ↦ f .of-members w k ] }
+    record {
+      different = and-from _ _ (ap not free) (f .different);
+      of-members = λ w h. elim (in-cases w v vs h) [ inl e ↦ rw e lt | inr k ↦ f .of-members w k ];
+    }
 
 -- two votes of one member in one slot are one
 pub fair-once : (n : ℕ) (v w : Vote) (vs : List Vote) → Fair n vs → In v vs → In w vs → Same-place v w → v ≡ w
@@ -56,6 +62,7 @@ fair-once n v w (u ∷ us) f hv hw s =
   where
     back : Same-place w v
     back = record { kind = sym (s .kind); period = sym (s .period); step = sym (s .step); from = sym (s .from) }
+
     go : (v ≡ u) ⊎ In v us → (w ≡ u) ⊎ In w us → (In v us → In w us → v ≡ w) → v ≡ w
     go (inl e) (inl d) rest = e ∙ sym d
     go (inl e) (inr b) rest = absurd (free-slot u w us (fair-first n u us f) b (rw e at s))
@@ -75,6 +82,7 @@ counted n k p s x (w ∷ ws) f = go (is-for k p s x w) refl (counted n k p s x w
   where
     wider : (i : ℕ) → voters k p s x ws i ≡ true → voters k p s x (w ∷ ws) i ≡ true
     wider i h = in-later _ w ws h
+
     go : (b : Bool) → is-for k p s x w ≡ b → count k p s x ws ≤ how-many n (voters k p s x ws) →
         cond b 1 0 + count k p s x ws ≤ how-many n (voters k p s x (w ∷ ws))
     go false e h =
@@ -82,13 +90,17 @@ counted n k p s x (w ∷ ws) f = go (is-for k p s x w) refl (counted n k p s x w
     go true e h =
         let is : w ≡ vote k p s x (w .from) = is-vote k p s x w e in
         let here : Same-place w (vote k p s x (w .from)) =
-              record { kind = ap (λ (v : Vote). v .kind) is; period = ap (λ (v : Vote). v .period) is
-                     ; step = ap (λ (v : Vote). v .step) is; from = refl } in
+        record {
+          kind = ap (λ (v : Vote). v .kind) is;
+          period = ap (λ (v : Vote). v .period) is;
+          step = ap (λ (v : Vote). v .step) is;
+          from = refl;
+        } in
         let off : voters k p s x ws (w .from) ≡ false =
-              is-false _ (λ h. free-slot w _ ws (fair-first n w ws f) h here) in
+        is-false _ (λ h. free-slot w _ ws (fair-first n w ws f) h here) in
         let more : suc (how-many n (voters k p s x ws)) ≤ how-many n (voters k p s x (w ∷ ws)) =
-              how-many-more n (w .from) (voters k p s x ws) (voters k p s x (w ∷ ws)) wider
-                  (f .of-members w (in-here w ws)) off (in-first _ w ws (sym is)) in
+        how-many-more n (w .from) (voters k p s x ws) (voters k p s x (w ∷ ws)) wider
+        (f .of-members w (in-here w ws)) off (in-first _ w ws (sym is)) in
         omega arith
 
 pub quorum-of : (l : Limits) (k p s x : ℕ) (vs : List Vote) → has-quorum l k p s x vs ≡ true →
@@ -139,12 +151,12 @@ quorum-one l k p s x y vs one f hx hy =
     let n : ℕ = l .members in
     let none : _ = nobody n in
     let m : Meet n (λ i. false) (voters k p s x vs) (voters k p s y vs) =
-          meet n (λ i. false) (voters k p s x vs) (voters k p s y vs)
-              (enough-for-two n _ _ _ one (omega arith)
-                  (quorum-of-members l k p s x vs f hx) (quorum-of-members l k p s y vs f hy)) in
+    meet n (λ i. false) (voters k p s x vs) (voters k p s y vs)
+    (enough-for-two n _ _ _ one (omega arith)
+    (quorum-of-members l k p s x vs f hx) (quorum-of-members l k p s y vs f hy)) in
     ap (λ (v : Vote). v .value)
-        (fair-once n (vote k p s x (m .0)) (vote k p s y (m .0)) vs f (m .1 .2) (m .1 .3)
-            (record { kind = refl; period = refl; step = refl; from = refl }))
+    (fair-once n (vote k p s x (m .0)) (vote k p s y (m .0)) vs f (m .1 .2) (m .1 .3)
+    (record { kind = refl; period = refl; step = refl; from = refl }))
 
 -- only the votes of one kind, period, step and value: they count as before
 unfoldable pub picked : (k p s x : ℕ) → List Vote → List Vote
@@ -184,18 +196,19 @@ pub in-common : (l : Limits) (faulty : ℕ → Bool) (said : Vote → Bool) (k p
 in-common l faulty said k p s x k′ p′ s′ x′ few a b =
     let n : ℕ = l .members in
     let m : Meet n faulty (voters k p s x (a .votes)) (voters k′ p′ s′ x′ (b .votes)) =
-          meet n faulty (voters k p s x (a .votes)) (voters k′ p′ s′ x′ (b .votes))
-              (enough-for-two n _ _ _ (omega arith) few
-                  (quorum-of-members l k p s x (a .votes) (a .fair) (a .enough))
-                  (quorum-of-members l k′ p′ s′ x′ (b .votes) (b .fair) (b .enough))) in
+    meet n faulty (voters k p s x (a .votes)) (voters k′ p′ s′ x′ (b .votes))
+    (enough-for-two n _ _ _ (omega arith) few
+    (quorum-of-members l k p s x (a .votes) (a .fair) (a .enough))
+    (quorum-of-members l k′ p′ s′ x′ (b .votes) (b .fair) (b .enough))) in
     (m .0, a .possible _ (m .1 .2) (m .1 .1), b .possible _ (m .1 .3) (m .1 .1))
 
 pub counting : (l : Limits) (faulty : ℕ → Bool) (said : Vote → Bool) → Few-faulty l faulty →
     Quorums said (Shown l faulty said)
 counting l faulty said few =
-    record
-      { some-honest = λ k p s x a. let (i, v, w) = in-common l faulty said k p s x k p s x few a a in (i, v)
-      ; one-slot = λ k p s x y a b. in-common l faulty said k p s x k p s y few a b
-      ; certain-and-on = λ p s x y a b. in-common l faulty said cert p 0 x next p s y few a b
-      ; certain-and-none = λ p s x y a b. in-common l faulty said cert p 0 x next-none p s y few a b
-      ; value-and-none = λ p s x y a b. in-common l faulty said next p s x next-none p s y few a b }
+    record {
+      some-honest = λ k p s x a. let (i, v, w) = in-common l faulty said k p s x k p s x few a a in (i, v);
+      one-slot = λ k p s x y a b. in-common l faulty said k p s x k p s y few a b;
+      certain-and-on = λ p s x y a b. in-common l faulty said cert p 0 x next p s y few a b;
+      certain-and-none = λ p s x y a b. in-common l faulty said cert p 0 x next-none p s y few a b;
+      value-and-none = λ p s x y a b. in-common l faulty said next p s x next-none p s y few a b;
+    }

@@ -54,7 +54,7 @@ pub heard-other : (l : Limits) (m : Member) (v : Vote) → refusal l m (got-vote
 unfolding last-refusal
 heard-other l m v h =
     let free : (slot-taken v (m .votes) ≡ false) × (eqb (v .from) (m .me) ≡ false) =
-          or-parts _ _ (zero-else _ 4 (omega arith) (taken-last l m (got-vote v) h)) in
+    or-parts _ _ (zero-else _ 4 (omega arith) (taken-last l m (got-vote v) h)) in
     (free .0, eqb-false _ _ (free .1))
 
 -- EACH EVENT
@@ -77,40 +77,41 @@ module _ (l : Limits) (i : ℕ) (member : i < l .members) (m : Member) (keeps : 
       let (free, not-me) = heard-other l m v h in
       let other : v .from ≡ i → ⊥ = λ e. not-me (e ∙ sym (keeps .me)) in
       let hears : Keeps l i (with-vote v m) =
-            with-vote-keeps l i m v keeps (ranged l v (taken-in-range l m (got-vote v) h)) free
-                (λ e. absurd (other e)) in
+      with-vote-keeps l i m v keeps (ranged l v (taken-in-range l m (got-vote v) h)) free
+      (λ e. absurd (other e)) in
       let d : Outcome = silent (with-vote v m) in
-      record
-        { before = v ∷ m .votes
-        ; from-before = λ w at.
-            elim (in-cases w v (m .votes) at) [ inl e ↦ inr (ap got-vote (sym e)) | inr k ↦ inl k ]
-        ; all-before = λ w at. in-later w v (m .votes) at
-        ; kept = settle-keeps l (Kept l i (v ∷ m .votes)) (kept-rules l i member (v ∷ m .votes)) (onward l v d)
-            (onward-kept l i member (v ∷ m .votes) v d (silent-kept l i (with-vote v m) hears)) }
+      record {
+        before = v ∷ m .votes;
+        from-before = λ w at.
+            elim (in-cases w v (m .votes) at) [ inl e ↦ inr (ap got-vote (sym e)) | inr k ↦ inl k ];
+        all-before = λ w at. in-later w v (m .votes) at;
+        kept = settle-keeps l (Kept l i (v ∷ m .votes)) (kept-rules l i member (v ∷ m .votes)) (onward l v d)
+            (onward-kept l i member (v ∷ m .votes) v d (silent-kept l i (with-vote v m) hears));
+      }
 
   pub timeout-comes : refusal l m timeout ≡ not-refused → Comes l i m timeout (settle l (on-timeout l m))
   unfolding last-refusal
   timeout-comes h =
       let time : (leb (m .step) (l .steps) ≡ true) × (leb (m .period) (l .periods) ≡ true) =
-            and-parts _ _ (zero-then _ 5 (omega arith) (taken-last l m timeout h)) in
+      and-parts _ _ (zero-then _ 5 (omega arith) (taken-last l m timeout h)) in
       quietly l i m timeout (settle l (on-timeout l m))
-          (settle-keeps l (Kept l i (m .votes)) (kept-rules l i member (m .votes)) (on-timeout l m)
-              (on-timeout-kept l i member m keeps (leb-true _ _ (time .1)) (leb-true _ _ (time .0))))
+      (settle-keeps l (Kept l i (m .votes)) (kept-rules l i member (m .votes)) (on-timeout l m)
+      (on-timeout-kept l i member m keeps (leb-true _ _ (time .1)) (leb-true _ _ (time .0))))
 
   pub does-comes : (e : Event) → refusal l m e ≡ not-refused → Comes l i m e (does l m e)
   unfolding does in-range
   does-comes (got-vote v) h = vote-comes v h
   does-comes (got-proposal o) h =
       let small : ltb (o .value) value-bound ≡ true =
-            and-parts _ _ (and-parts _ _ (taken-in-range l m (got-proposal o) h) .1) .0 in
+      and-parts _ _ (and-parts _ _ (taken-in-range l m (got-proposal o) h) .1) .0 in
       let next : Member = with-proposals (keep-best o (m .proposals)) m in
       quietly l i m (got-proposal o) (silent next)
-          (silent-kept l i next (with-proposal-keeps l i o m (ltb-true _ _ small) keeps))
+      (silent-kept l i next (with-proposal-keeps l i o m (ltb-true _ _ small) keeps))
   does-comes (got-block x) h =
       let next : Member = with-blocks (add-block x (m .blocks)) m in
       quietly l i m (got-block x) (settle l (silent next))
-          (settle-keeps l (Kept l i (m .votes)) (kept-rules l i member (m .votes)) (silent next)
-              (silent-kept l i next (with-block-keeps l i x m keeps)))
+      (settle-keeps l (Kept l i (m .votes)) (kept-rules l i member (m .votes)) (silent next)
+      (silent-kept l i next (with-block-keeps l i x m keeps)))
   does-comes timeout h = timeout-comes h
   does-comes (unreadable n) h = quietly l i m (unreadable n) (silent m) (silent-kept l i m keeps)
 
@@ -121,9 +122,11 @@ module _ (l : Limits) (i : ℕ) (member : i < l .members) (m : Member) (keeps : 
     where
       go : (b : Bool) → eqb (refusal l m e) not-refused ≡ b →
           Comes l i m e
-              (record { member = cond b (does l m e .member) m
-                      ; out = votes-of (cond b (says (does l m e .out) (does l m e .member .agreed))
-                          (refused (refusal l m e) (place e))) })
+          (record {
+            member = cond b (does l m e .member) m;
+            out = votes-of (cond b (says (does l m e .out) (does l m e .member .agreed))
+                (refused (refusal l m e) (place e)));
+          })
       go true h = does-comes e (eqb-true _ _ h)
       go false h = quietly l i m e (silent m) (silent-kept l i m keeps)
 
@@ -146,8 +149,8 @@ pub agree-leaves-nothing : (l : Limits) (d : Outcome) → Nothing-left l (agree 
 unfolding agree-on is-some
 agree-leaves-nothing l d =
     either (Nothing-left l) (is-some (d .member .agreed)) (d .member) (agree-on (certified l (d .member)) (d .member))
-        (λ some none. absurd (both-ways _ (ap is-some none) some))
-        (λ _. go (certified l (d .member)) refl)
+    (λ some none. absurd (both-ways _ (ap is-some none) some))
+    (λ _. go (certified l (d .member)) refl)
   where
     go : (xs : List ℕ) → certified l (d .member) ≡ xs → Nothing-left l (agree-on xs (d .member))
     go [] e none = e
@@ -172,4 +175,4 @@ member-after-leaves-nothing l i [] = λ none. refl
 member-after-leaves-nothing l i (e ∷ es) =
     let m : Member = member-after l i es in
     either (Nothing-left l) (eqb (refusal l m e) not-refused) (does l m e .member) m
-        (λ _. does-leaves-nothing l m e (member-after-leaves-nothing l i es)) (λ _. member-after-leaves-nothing l i es)
+    (λ _. does-leaves-nothing l m e (member-after-leaves-nothing l i es)) (λ _. member-after-leaves-nothing l i es)

@@ -44,10 +44,17 @@ ranged l v h =
     let e : _ = and-parts _ _ (b .1) in
     let f : _ = and-parts _ _ (a .1) in
     let s : _ = steps-of (v .kind) (v .step) (suc (l .steps)) (f .0) in
-    record
-      { kinds = leb-true _ _ (c .0); from-1 = leb-true _ _ (d .0); periods = leb-true _ _ (d .1)
-      ; member = ltb-true _ _ (e .0); value = ltb-true _ _ (e .1); first-step = s .0; later-step = s .1; steps = s .2
-      ; no-value = none-of (v .kind) (v .value) (f .1) }
+    record {
+      kinds = leb-true _ _ (c .0);
+      from-1 = leb-true _ _ (d .0);
+      periods = leb-true _ _ (d .1);
+      member = ltb-true _ _ (e .0);
+      value = ltb-true _ _ (e .1);
+      first-step = s .0;
+      later-step = s .1;
+      steps = s .2;
+      no-value = none-of (v .kind) (v .value) (f .1);
+    }
 
 steps-test : (k s n : ℕ) → (k < next → s ≡ 0) → (next ≤ k → 2 ≤ s) → (next ≤ k → s ≤ n) →
     cond (ltb k next) (eqb s 0) (leb 2 s && leb s n) ≡ true
@@ -68,11 +75,11 @@ pub range-test : (l : Limits) (v : Vote) → Ranged l v → vote-in-range l v �
 unfolding vote-in-range
 range-test l v r =
     and-from _ _
-        (and-from _ _
-            (and-from _ _ (le-leb _ _ (r .kinds)) (and-from _ _ (le-leb _ _ (r .from-1)) (le-leb _ _ (r .periods))))
-            (and-from _ _ (lt-ltb _ _ (r .member)) (lt-ltb _ _ (r .value))))
-        (and-from _ _ (steps-test (v .kind) (v .step) (suc (l .steps)) (r .first-step) (r .later-step) (r .steps))
-            (none-test (v .kind) (v .value) (r .no-value)))
+    (and-from _ _
+    (and-from _ _ (le-leb _ _ (r .kinds)) (and-from _ _ (le-leb _ _ (r .from-1)) (le-leb _ _ (r .periods))))
+    (and-from _ _ (lt-ltb _ _ (r .member)) (lt-ltb _ _ (r .value))))
+    (and-from _ _ (steps-test (v .kind) (v .step) (suc (l .steps)) (r .first-step) (r .later-step) (r .steps))
+    (none-test (v .kind) (v .value) (r .no-value)))
 
 -- THE PARTS
 
@@ -151,14 +158,21 @@ pub record Keeps (l : Limits) (i : ℕ) (m : Member) : Type 0 where
 pub new-keeps : (l : Limits) (i : ℕ) → Keeps l i (new-member i)
 unfolding all-different
 new-keeps l i =
-    record
-      { me = refl; within = record { from-1 = omega arith; periods = omega arith; steps = omega arith }
-      ; heard = record { fair = record { different = refl; of-members = λ v h. absurd (in-none v h) }
-                       ; in-range = λ v h. absurd (in-none v h) }
-      ; own = record { reason = λ v h. absurd (in-none v h); one-thing = λ v w h. absurd (in-none v h)
-                     ; certain-on = λ v w h. absurd (in-none v h) }
-      ; behind = λ v h. absurd (in-none v h)
-      ; came = record { if-free = λ _. (refl, inl refl); else-with = λ h. absurd (both-ways true h refl) }
-      ; certain-now = λ v h. absurd (in-none v h)
-      ; agreed = inl refl
-      ; proposals = tt }
+    record {
+      me = refl;
+      within = record { from-1 = omega arith; periods = omega arith; steps = omega arith };
+      heard = record {
+        fair = record { different = refl; of-members = λ v h. absurd (in-none v h) };
+        in-range = λ v h. absurd (in-none v h);
+      };
+      own = record {
+        reason = λ v h. absurd (in-none v h);
+        one-thing = λ v w h. absurd (in-none v h);
+        certain-on = λ v w h. absurd (in-none v h);
+      };
+      behind = λ v h. absurd (in-none v h);
+      came = record { if-free = λ _. (refl, inl refl); else-with = λ h. absurd (both-ways true h refl) };
+      certain-now = λ v h. absurd (in-none v h);
+      agreed = inl refl;
+      proposals = tt;
+    }

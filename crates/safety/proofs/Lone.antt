@@ -33,20 +33,21 @@ not-behind l i m v k mine none =
 
 pub keeps-fresh : (l : Limits) (i : ℕ) (m : Member) → Keeps l i m → Fresh l i m
 keeps-fresh l i m k =
-    record
-      { soft-slot = λ x start. not-behind l i m (own m soft 0 x) k (k .me)
-          (λ w s b. let past : 1 ≤ m .step = b .soft-behind (sym (s .kind)) (sym (s .period)) in omega arith)
-      ; cert-slot = λ x not-yet. not-behind l i m (own m cert 0 x) k (k .me)
-          (λ w s b. both-ways _ not-yet (b .cert-behind (sym (s .kind)) (sym (s .period)) .0))
-      ; step-slots = λ j s x on later. not-behind l i m (own m j s x) k (k .me)
+    record {
+      soft-slot = λ x start. not-behind l i m (own m soft 0 x) k (k .me)
+          (λ w s b. let past : 1 ≤ m .step = b .soft-behind (sym (s .kind)) (sym (s .period)) in omega arith);
+      cert-slot = λ x not-yet. not-behind l i m (own m cert 0 x) k (k .me)
+          (λ w s b. both-ways _ not-yet (b .cert-behind (sym (s .kind)) (sym (s .period)) .0));
+      step-slots = λ j s x on later. not-behind l i m (own m j s x) k (k .me)
           (λ w p b. let same : j ≡ w .kind = p .kind in
-                    let past : w .step ≤ m .step = b .next-behind (omega arith) (sym (p .period)) in
-                    let at : s ≡ w .step = p .step in
-                    omega arith)
-      ; later-slots = λ v mine later. not-behind l i m v k mine
+          let past : w .step ≤ m .step = b .next-behind (omega arith) (sym (p .period)) in
+          let at : s ≡ w .step = p .step in
+          omega arith);
+      later-slots = λ v mine later. not-behind l i m v k mine
           (λ w s b. let same : v .period ≡ w .period = s .period in
-                    let past : w .period ≤ m .period = b .not-later in
-                    omega arith) }
+          let past : w .period ≤ m .period = b .not-later in
+          omega arith);
+    }
 
 pub own-fresh : Own-fresh
 own-fresh l i es member = keeps-fresh l i (member-after l i es) (member-after-keeps l i es member)
@@ -54,7 +55,7 @@ own-fresh l i es member = keeps-fresh l i (member-after l i es) (member-after-ke
 pub one-value-heard : One-value-heard
 one-value-heard l i es member k p s a b ha hb =
     quorum-one l k p s a b (member-after l i es .votes) (omega arith)
-        (member-after-keeps l i es member .heard .fair) ha hb
+    (member-after-keeps l i es member .heard .fair) ha hb
 
 pub begins : Begins
 begins l i es member =
@@ -69,11 +70,12 @@ certain-is-said l i es member x = go (member-after l i es .certain) refl
   where
     m : Member
     m = member-after l i es
+
     go : (b : Bool) → member-after l i es .certain ≡ b → slot-taken (own m cert 0 x) (m .votes) ≡ b
     go true is =
         let (y, at) = member-after-said l i es is in
         slot-has (own m cert 0 x) (own m cert 0 y) (m .votes) at
-            (record { kind = refl; period = refl; step = refl; from = refl })
+        (record { kind = refl; period = refl; step = refl; from = refl })
     go false not-yet = own-fresh l i es member .cert-slot x not-yet
 
 pub certain-at-once : Certain-at-once

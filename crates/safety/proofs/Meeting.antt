@@ -34,7 +34,7 @@ unfolding how-many
 meet zero faulty q r lt = absurd (omega arith)
 meet (suc n) faulty q r lt =
     meet-more n (how-many n faulty) (how-many n q) (how-many n r) faulty q r (faulty n) (q n) (r n) refl refl refl lt
-        (meet n faulty q r)
+    (meet n faulty q r)
 
 -- two quorums are more than all members and the faulty ones once more
 pub enough-for-two : (n f a b : ℕ) → 1 ≤ n → 3 * f < n → quorum n ≤ a → quorum n ≤ b → n + f < a + b
@@ -68,12 +68,14 @@ how-many-more (suc n) j f g sub lt off on = go (cases-eq j n) (λ below. how-man
     last true y ex ey h = absurd (both-ways true ex refl)
     last false false ex ey h = absurd (both-ways false refl ey)
     last false true ex ey h = omega arith
+
     before : (x y : Bool) → (x ≡ true → y ≡ true) → suc (how-many n f) ≤ how-many n g →
         suc (cond x 1 0 + how-many n f) ≤ cond y 1 0 + how-many n g
     before true true s h = omega arith
     before true false s h = absurd (both-ways false refl (s refl))
     before false true s h = omega arith
     before false false s h = omega arith
+
     go : (j ≡ n) ⊎ (j ≡ n → ⊥) → (j < n → suc (how-many n f) ≤ how-many n g) →
         suc (cond (f n) 1 0 + how-many n f) ≤ cond (g n) 1 0 + how-many n g
     go (inl e) less = last (f n) (g n) (rw e at off) (rw e at on) (how-many-grows n f g sub)

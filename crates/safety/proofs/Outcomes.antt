@@ -26,18 +26,29 @@ pub record Kept (l : Limits) (i : ℕ) (before : List Vote) (d : Outcome) : Type
 pub silent-kept : (l : Limits) (i : ℕ) (m : Member) → Keeps l i m → Kept l i (m .votes) (silent m)
 unfolding no-repeat
 silent-kept l i m k =
-    record
-      { member = k; mine = λ v h. absurd (in-none v h); hears-itself = λ v h. absurd (in-none v h)
-      ; hears-no-more = λ v h. inl h; forgets-none = λ v h. h; news = λ v h _. in-none v h; once = refl }
+    record {
+      member = k;
+      mine = λ v h. absurd (in-none v h);
+      hears-itself = λ v h. absurd (in-none v h);
+      hears-no-more = λ v h. inl h;
+      forgets-none = λ v h. h;
+      news = λ v h _. in-none v h;
+      once = refl;
+    }
 
 -- a change of the member that leaves its votes
 pub moved : (l : Limits) (i : ℕ) (b : List Vote) (d : Outcome) (m : Member) → Kept l i b d →
     m .votes ≡ d .member .votes → Keeps l i m → Kept l i b (record { member = m; out = d .out })
 moved l i b d m k e new =
-    record
-      { member = new; mine = k .mine; hears-itself = λ v h. rw e (k .hears-itself v h)
-      ; hears-no-more = λ v h. k .hears-no-more v (rw e at h); forgets-none = λ v h. rw e (k .forgets-none v h)
-      ; news = k .news; once = k .once }
+    record {
+      member = new;
+      mine = k .mine;
+      hears-itself = λ v h. rw e (k .hears-itself v h);
+      hears-no-more = λ v h. k .hears-no-more v (rw e at h);
+      forgets-none = λ v h. rw e (k .forgets-none v h);
+      news = k .news;
+      once = k .once;
+    }
 
 pub no-repeat-more : (vs : List Vote) (v : Vote) → no-repeat vs ≡ true → (In v vs → ⊥) →
     no-repeat (vs ++ (v ∷ [])) ≡ true
@@ -46,11 +57,12 @@ no-repeat-more [] v h new = and-from _ _ (not-from-false _ (is-false _ (in-none 
 no-repeat-more (w ∷ ws) v h new =
     let (a, b) = and-parts _ _ h in
     and-from _ _
-        (not-from-false _ (is-false _ (λ at.
-            elim (in-either w ws (v ∷ []) at)
-                [ inl k ↦ both-ways _ (not-true _ a) k
-                | inr k ↦ elim (in-cases w v [] k) [ inl e ↦ new (in-first v w ws (sym e)) | inr n ↦ in-none w n ] ])))
-        (no-repeat-more ws v b (λ k. new (in-later v w ws k)))
+    (not-from-false _ (is-false _ (λ at.
+    elim (in-either w ws (v ∷ []) at) [
+      | inl k ↦ both-ways _ (not-true _ a) k
+      | inr k ↦ elim (in-cases w v [] k) [ inl e ↦ new (in-first v w ws (sym e)) | inr n ↦ in-none w n ]
+    ])))
+    (no-repeat-more ws v b (λ k. new (in-later v w ws k)))
 
 -- it says a vote that it may say
 pub say-kept : (l : Limits) (i : ℕ) (b : List Vote) (d : Outcome) (v : Vote) → Kept l i b d → Ranged l v → v .from ≡ i →
@@ -58,20 +70,25 @@ pub say-kept : (l : Limits) (i : ℕ) (b : List Vote) (d : Outcome) (v : Vote) �
 say-kept l i b d v k range mine new =
     let vs : List Vote = d .member .votes in
     let nowhere : In v vs → ⊥ = λ h. new .fresh v h mine (record { period = refl; step = refl; kind = inl refl }) in
-    record
-      { member = with-vote-keeps l i (d .member) v (k .member) range (fresh-slot i v vs mine (new .fresh)) (λ _. new)
-      ; mine = λ w h. elim (in-either w (d .out) (v ∷ []) h)
-          [ inl a ↦ k .mine w a
-          | inr c ↦ elim (in-cases w v [] c) [ inl e ↦ rw e mine | inr n ↦ absurd (in-none w n) ] ]
-      ; hears-itself = λ w h. elim (in-either w (d .out) (v ∷ []) h)
-          [ inl a ↦ in-later w v vs (k .hears-itself w a)
-          | inr c ↦ elim (in-cases w v [] c) [ inl e ↦ in-first w v vs e | inr n ↦ absurd (in-none w n) ] ]
-      ; hears-no-more = λ w h. elim (in-cases w v vs h)
-          [ inl e ↦ inr (in-right w (d .out) (v ∷ []) (in-first w v [] e))
-          | inr a ↦ elim (k .hears-no-more w a) [ inl x ↦ inl x | inr y ↦ inr (in-left w (d .out) (v ∷ []) y) ] ]
-      ; forgets-none = λ w h. in-later w v vs (k .forgets-none w h)
-      ; news = λ w h at. elim (in-either w (d .out) (v ∷ []) h)
-          [ inl a ↦ k .news w a at
-          | inr c ↦ elim (in-cases w v [] c)
-              [ inl e ↦ nowhere (rw e at (k .forgets-none w at)) | inr n ↦ in-none w n ] ]
-      ; once = no-repeat-more (d .out) v (k .once) (λ h. nowhere (k .hears-itself v h)) }
+    record {
+      member = with-vote-keeps l i (d .member) v (k .member) range (fresh-slot i v vs mine (new .fresh)) (λ _. new);
+      mine = λ w h. elim (in-either w (d .out) (v ∷ []) h) [
+        | inl a ↦ k .mine w a
+        | inr c ↦ elim (in-cases w v [] c) [ inl e ↦ rw e mine | inr n ↦ absurd (in-none w n) ]
+      ];
+      hears-itself = λ w h. elim (in-either w (d .out) (v ∷ []) h) [
+        | inl a ↦ in-later w v vs (k .hears-itself w a)
+        | inr c ↦ elim (in-cases w v [] c) [ inl e ↦ in-first w v vs e | inr n ↦ absurd (in-none w n) ]
+      ];
+      hears-no-more = λ w h. elim (in-cases w v vs h) [
+        | inl e ↦ inr (in-right w (d .out) (v ∷ []) (in-first w v [] e))
+        | inr a ↦ elim (k .hears-no-more w a) [ inl x ↦ inl x | inr y ↦ inr (in-left w (d .out) (v ∷ []) y) ]
+      ];
+      forgets-none = λ w h. in-later w v vs (k .forgets-none w h);
+      news = λ w h at. elim (in-either w (d .out) (v ∷ []) h) [
+        | inl a ↦ k .news w a at
+        | inr c ↦ elim (in-cases w v [] c)
+            [ inl e ↦ nowhere (rw e at (k .forgets-none w at)) | inr n ↦ in-none w n ]
+      ];
+      once = no-repeat-more (d .out) v (k .once) (λ h. nowhere (k .hears-itself v h));
+    }

@@ -33,10 +33,13 @@ pub record Sound (l : Limits) (faulty : ℕ → Bool) (w : Network) : Type 0 whe
 pub new-sound : (l : Limits) (faulty : ℕ → Bool) → Sound l faulty new-network
 unfolding no-repeat
 new-sound l faulty =
-    record
-      { keeps = λ i _. new-keeps l i; said-honest = λ v h. absurd (in-none v h)
-      ; said-heard = λ i v h _. absurd (in-none v h)
-      ; can-have-come = λ i v _ h _. absurd (in-none v h); said-once = refl }
+    record {
+      keeps = λ i _. new-keeps l i;
+      said-honest = λ v h. absurd (in-none v h);
+      said-heard = λ i v h _. absurd (in-none v h);
+      can-have-come = λ i v _ h _. absurd (in-none v h);
+      said-once = refl;
+    }
 
 pub no-repeat-joined : (xs ys : List Vote) → no-repeat xs ≡ true → no-repeat ys ≡ true →
     ((v : Vote) → In v xs → In v ys → ⊥) → no-repeat (xs ++ ys) ≡ true
@@ -45,10 +48,10 @@ no-repeat-joined [] ys hx hy apart = hy
 no-repeat-joined (x ∷ xs) ys hx hy apart =
     let (a, b) = and-parts _ _ hx in
     and-from _ _
-        (not-from-false _ (is-false _ (λ at.
-            elim (in-either x xs ys at)
-                [ inl k ↦ both-ways _ (not-true _ a) k | inr k ↦ apart x (in-first x x xs refl) k ])))
-        (no-repeat-joined xs ys b hy (λ v h k. apart v (in-later v x xs h) k))
+    (not-from-false _ (is-false _ (λ at.
+    elim (in-either x xs ys at)
+    [ inl k ↦ both-ways _ (not-true _ a) k | inr k ↦ apart x (in-first x x xs refl) k ])))
+    (no-repeat-joined xs ys b hy (λ v h k. apart v (in-later v x xs h) k))
 
 -- a vote of an honest member comes only if it was said
 pub came-said : (faulty : ℕ → Bool) (w : Network) (e : Event) (v : Vote) → can-happen faulty w e ≡ true →
@@ -75,18 +78,21 @@ module _ (l : Limits) (faulty : ℕ → Bool) (w : Network) (sound : Sound l fau
   each : (P : ℕ → Member → Type 0) → P i then → ((j : ℕ) → (i ≡ j → ⊥) → P j (w .member j)) →
       (j : ℕ) → P j (deliver l w i e .member j)
   each P here others j =
-      elim (cases-eq i j)
-          [ inl is ↦ rw (← is) (rw (cond-true (eqb i i) then (w .member i) (eq-eqb i i refl)) here)
-          | inr other ↦ rw (cond-false (eqb i j) then (w .member j) (ne-eqb i j other)) (others j other) ]
+      elim (cases-eq i j) [
+        | inl is ↦ rw (← is) (rw (cond-true (eqb i i) then (w .member i) (eq-eqb i i refl)) here)
+        | inr other ↦ rw (cond-false (eqb i j) then (w .member j) (ne-eqb i j other)) (others j other)
+      ]
 
   came-more : (v : Vote) → In v (then .votes) → faulty (v .from) ≡ false → In v (out ++ w .said)
   came-more v h good =
-      elim (comes .kept .hears-no-more v h)
-          [ inl b ↦ in-right v out (w .said)
-              (elim (comes .from-before v b)
-                  [ inl at ↦ sound .can-have-come i v honest at good
-                  | inr is ↦ came-said faulty w e v can is good ])
-          | inr o ↦ in-left v out (w .said) o ]
+      elim (comes .kept .hears-no-more v h) [
+        | inl b ↦ in-right v out (w .said)
+            (elim (comes .from-before v b) [
+              | inl at ↦ sound .can-have-come i v honest at good
+              | inr is ↦ came-said faulty w e v can is good
+            ])
+        | inr o ↦ in-left v out (w .said) o
+      ]
 
   said-honest-more : (v : Vote) → In v (out ++ w .said) → Honest l faulty (v .from)
   said-honest-more v h =
@@ -95,27 +101,29 @@ module _ (l : Limits) (faulty : ℕ → Bool) (w : Network) (sound : Sound l fau
   said-heard-more : (v : Vote) → In v (out ++ w .said) → (j : ℕ) → v .from ≡ j → In v (deliver l w i e .member j .votes)
   said-heard-more v h =
       each (λ j x. v .from ≡ j → In v (x .votes))
-          (λ mine.
-            elim (in-either v out (w .said) h)
-                [ inl o ↦ comes .kept .hears-itself v o
-                | inr s ↦ comes .kept .forgets-none v (comes .all-before v (sound .said-heard i v s mine)) ])
-          (λ j other from.
-            elim (in-either v out (w .said) h)
-                [ inl o ↦ absurd (other (sym (comes .kept .mine v o) ∙ from)) | inr s ↦ sound .said-heard j v s from ])
+      (λ mine.
+      elim (in-either v out (w .said) h) [
+        | inl o ↦ comes .kept .hears-itself v o
+        | inr s ↦ comes .kept .forgets-none v (comes .all-before v (sound .said-heard i v s mine))
+      ])
+      (λ j other from.
+      elim (in-either v out (w .said) h)
+      [ inl o ↦ absurd (other (sym (comes .kept .mine v o) ∙ from)) | inr s ↦ sound .said-heard j v s from ])
 
   pub delivered-sound : Sound l faulty (deliver l w i e)
   delivered-sound =
-      record
-        { keeps = each (λ j x. Honest l faulty j → Keeps l j x) (λ _. comes .kept .member) (λ j _. sound .keeps j)
-        ; said-honest = said-honest-more
-        ; said-heard = λ j v h from. said-heard-more v h j from
-        ; can-have-come = λ j v h at good.
+      record {
+        keeps = each (λ j x. Honest l faulty j → Keeps l j x) (λ _. comes .kept .member) (λ j _. sound .keeps j);
+        said-honest = said-honest-more;
+        said-heard = λ j v h from. said-heard-more v h j from;
+        can-have-come = λ j v h at good.
             each (λ j x. Honest l faulty j → In v (x .votes) → In v (out ++ w .said))
-                (λ _ at. came-more v at good)
-                (λ j _ h at. in-right v out (w .said) (sound .can-have-come j v h at good)) j h at
-        ; said-once = no-repeat-joined out (w .said) (comes .kept .once) (sound .said-once)
+            (λ _ at. came-more v at good)
+            (λ j _ h at. in-right v out (w .said) (sound .can-have-come j v h at good)) j h at;
+        said-once = no-repeat-joined out (w .said) (comes .kept .once) (sound .said-once)
             (λ v o s. comes .kept .news v o
-                (comes .all-before v (sound .said-heard i v s (comes .kept .mine v o)))) }
+            (comes .all-before v (sound .said-heard i v s (comes .kept .mine v o))));
+      }
 
 -- EVERYTHING THAT CAN HAPPEN
 pub reachable-sound : (l : Limits) (faulty : ℕ → Bool) {w : Network} → Reachable l faulty w → Sound l faulty w

@@ -35,20 +35,22 @@ either K false x y t f = f refl
 -- the period that a vote to go on leads to
 abbrev pub gone-on : Vote → Outcome → Outcome
 gone-on v d =
-    record { member = in-period (suc (v .period)) (cond (eqb (v .kind) next) (v .value ∷ []) [])
-               (eqb (v .kind) next-none) (d .member)
-           ; out = d .out }
+    record {
+      member = in-period (suc (v .period)) (cond (eqb (v .kind) next) (v .value ∷ []) [])
+          (eqb (v .kind) next-none) (d .member);
+      out = d .out;
+    }
 
 pub onward-keeps : (l : Limits) (K : Outcome → Type 0) (v : Vote) (d : Outcome) →
     (next ≤ v .kind → d .member .period ≤ v .period →
-        has-quorum l (v .kind) (v .period) (v .step) (v .value) (d .member .votes) ≡ true → K (gone-on v d)) →
+    has-quorum l (v .kind) (v .period) (v .step) (v .value) (d .member .votes) ≡ true → K (gone-on v d)) →
     K d → K (onward l v d)
 onward-keeps l K v d goes stays =
     either K _ (gone-on v d) d
-        (λ h. let a : _ = and-parts _ _ h in
-              let b : _ = and-parts _ _ (a .0) in
-              goes (leb-true _ _ (b .0)) (leb-true _ _ (b .1)) (a .1))
-        (λ _. stays)
+    (λ h. let a : _ = and-parts _ _ h in
+    let b : _ = and-parts _ _ (a .0) in
+    goes (leb-true _ _ (b .0)) (leb-true _ _ (b .1)) (a .1))
+    (λ _. stays)
 
 -- TURNED AWAY
 
@@ -70,7 +72,7 @@ some-agreed m a h = rw h
 pub agreed-stays : Agreed-stays
 agreed-stays l m e a h =
     let refused : 0 < refusal l m e =
-          refuses (is-event e) (l .takes (event-number e) && in-range l e) _ (last-refusal l m e) (some-agreed m a h) in
+    refuses (is-event e) (l .takes (event-number e) && in-range l e) _ (last-refusal l m e) (some-agreed m a h) in
     ap (λ (x : Member). x .agreed) (turned-away l m e refused) ∙ h
 
 -- PERIODS GO ON
@@ -81,16 +83,18 @@ Not-before p d = p ≤ d .member .period
 pub period-rules : (l : Limits) (p : ℕ) → Rules l (Not-before p)
 unfolding say-cert agree-on
 period-rules l p =
-    record
-      { by-onward = λ v d k. onward-keeps l (Not-before p) v d (λ _ on _. omega arith) k
-      ; by-certainly = λ d k. either (Not-before p) _ _ d (λ _. cert-keeps (chosen l (d .member)) d k) (λ _. k)
-      ; by-agree = λ d k.
+    record {
+      by-onward = λ v d k. onward-keeps l (Not-before p) v d (λ _ on _. omega arith) k;
+      by-certainly = λ d k. either (Not-before p) _ _ d (λ _. cert-keeps (chosen l (d .member)) d k) (λ _. k);
+      by-agree = λ d k.
           either (λ m. p ≤ m .period) _ (d .member) _ (λ _. k)
-              (λ _. agree-keeps (certified l (d .member)) (d .member) k) }
+          (λ _. agree-keeps (certified l (d .member)) (d .member) k);
+    }
   where
     cert-keeps : (xs : List ℕ) (d : Outcome) → Not-before p d → Not-before p (say-cert xs d)
     cert-keeps [] d k = k
     cert-keeps (x ∷ xs) d k = k
+
     agree-keeps : (xs : List ℕ) (m : Member) → p ≤ m .period → p ≤ agree-on xs m .period
     agree-keeps [] m k = k
     agree-keeps (x ∷ xs) m k = k
@@ -105,15 +109,15 @@ unfolding does
 does-goes-on l m (got-vote v) =
     let rules : _ = period-rules l (m .period) in
     settle-keeps l (Not-before (m .period)) rules (onward l v (silent (with-vote v m)))
-        (rules .by-onward v (silent (with-vote v m)) (omega arith))
+    (rules .by-onward v (silent (with-vote v m)) (omega arith))
 does-goes-on l m (got-proposal o) = omega arith
 does-goes-on l m (got-block x) = settle-keeps l (Not-before (m .period)) (period-rules l (m .period))
-        (silent (with-blocks (add-block x (m .blocks)) m)) (omega arith)
+    (silent (with-blocks (add-block x (m .blocks)) m)) (omega arith)
 does-goes-on l m timeout =
     settle-keeps l (Not-before (m .period)) (period-rules l (m .period)) (on-timeout l m)
-        (either (Not-before (m .period)) (eqb (m .step) 0) _ _
-            (λ _. soft-period (m .period) (soft-value m) (silent (at-step 1 m)) (omega arith))
-            (λ _. omega arith))
+    (either (Not-before (m .period)) (eqb (m .step) 0) _ _
+    (λ _. soft-period (m .period) (soft-value m) (silent (at-step 1 m)) (omega arith))
+    (λ _. omega arith))
 does-goes-on l m (unreadable n) = omega arith
 
 pub periods-go-on : Periods-go-on
@@ -133,10 +137,11 @@ some-more (w ∷ ws) v = refl
 pub says-rules : (l : Limits) → Rules l Says
 unfolding say-cert
 says-rules l =
-    record
-      { by-onward = λ v d k. either Says _ _ d (λ _. k) (λ _. k)
-      ; by-certainly = λ d k. either Says _ _ d (λ _. cert-keeps (chosen l (d .member)) d k) (λ _. k)
-      ; by-agree = λ d k. k }
+    record {
+      by-onward = λ v d k. either Says _ _ d (λ _. k) (λ _. k);
+      by-certainly = λ d k. either Says _ _ d (λ _. cert-keeps (chosen l (d .member)) d k) (λ _. k);
+      by-agree = λ d k. k;
+    }
   where
     cert-keeps : (xs : List ℕ) (d : Outcome) → Says d → Says (say-cert xs d)
     cert-keeps [] d k = k
@@ -146,10 +151,10 @@ pub timeout-says : (l : Limits) (m : Member) → 1 ≤ m .step → is-some (does
 unfolding does
 timeout-says l m h =
     settle-keeps l Says (says-rules l) (on-timeout l m)
-        (rw (cond-false (eqb (m .step) 0) (say-soft (soft-value m) (silent (at-step 1 m)))
-                (say (next-vote m (suc (m .step)) (chosen l m)) (silent (at-step (suc (m .step)) m)))
-                (ne-eqb _ _ (omega arith)))
-            (some-more [] (next-vote m (suc (m .step)) (chosen l m))))
+    (rw (cond-false (eqb (m .step) 0) (say-soft (soft-value m) (silent (at-step 1 m)))
+    (say (next-vote m (suc (m .step)) (chosen l m)) (silent (at-step (suc (m .step)) m)))
+    (ne-eqb _ _ (omega arith)))
+    (some-more [] (next-vote m (suc (m .step)) (chosen l m))))
 
 not-agreed : (m : Member) → m .agreed ≡ [] → is-some (m .agreed) ≡ false
 unfolding is-some
@@ -164,7 +169,7 @@ pub time-can-be-up : (l : Limits) (m : Member) → Good-limits all l → m .agre
 unfolding is-event event-number in-range last-refusal
 time-can-be-up l m good none step period =
     taken (l .takes 3) (is-some (m .agreed)) (leb (m .step) (l .steps) && leb (m .period) (l .periods)) (good .stage 3)
-        (not-agreed m none) (and-from _ _ (le-leb _ _ step) (le-leb _ _ period))
+    (not-agreed m none) (and-from _ _ (le-leb _ _ step) (le-leb _ _ period))
 
 pub never-stuck : Never-stuck
 never-stuck l m good none step period = (time-can-be-up l m good none step period, timeout-says l m)

@@ -63,37 +63,40 @@ module _ (l : Limits) (faulty : ℕ → Bool) (w : Network) (sound : Sound l fau
 
   pub history : History (said-in w) (Can-show l faulty w)
   history =
-      record
-        { from-period-1 = λ k p s x i h.
-            let a : Speaker (vote k p s x i) = speaker _ h in a .keeps .heard .in-range _ (a .heard) .from-1
-        ; soft-because = λ p x i h.
-            elim (said-because _ h .soft-because refl)
-                [ inl f ↦ inl (free-shown i p (sound .said-honest _ h) f)
-                | inr c ↦ inr (with-shown i p x (sound .said-honest _ h) c) ]
-        ; cert-because = λ p x i h.
-            heard-shows l faulty w sound i (sound .said-honest _ h) soft p 0 x (said-because _ h .cert-because refl)
-        ; next-because = λ p s x i h.
-            elim (said-because _ h .next-because refl)
-                [ inl q ↦ inl (heard-shows l faulty w sound i (sound .said-honest _ h) soft p 0 x q)
-                | inr c ↦ inr (with-shown i p x (sound .said-honest _ h) c) ]
-        ; none-because = λ p s x i h. free-shown i p (sound .said-honest _ h) (said-because _ h .none-because refl)
-        ; one-value = λ k p s x y i h g.
+      record {
+        from-period-1 = λ k p s x i h.
+            let a : Speaker (vote k p s x i) = speaker _ h in a .keeps .heard .in-range _ (a .heard) .from-1;
+        soft-because = λ p x i h.
+            elim (said-because _ h .soft-because refl) [
+              | inl f ↦ inl (free-shown i p (sound .said-honest _ h) f)
+              | inr c ↦ inr (with-shown i p x (sound .said-honest _ h) c)
+            ];
+        cert-because = λ p x i h.
+            heard-shows l faulty w sound i (sound .said-honest _ h) soft p 0 x (said-because _ h .cert-because refl);
+        next-because = λ p s x i h.
+            elim (said-because _ h .next-because refl) [
+              | inl q ↦ inl (heard-shows l faulty w sound i (sound .said-honest _ h) soft p 0 x q)
+              | inr c ↦ inr (with-shown i p x (sound .said-honest _ h) c)
+            ];
+        none-because = λ p s x i h. free-shown i p (sound .said-honest _ h) (said-because _ h .none-because refl);
+        one-value = λ k p s x y i h g.
             ap (λ (v : Vote). v .value)
-                (said-one-thing i (vote k p s x i) (vote k p s y i) h g refl refl
-                    (record { period = refl; step = refl; kind = inl refl }))
-        ; not-both = λ p s x y i h g.
+            (said-one-thing i (vote k p s x i) (vote k p s y i) h g refl refl
+            (record { period = refl; step = refl; kind = inl refl }));
+        not-both = λ p s x y i h g.
             let same : next ≡ next-none =
-                  ap (λ (v : Vote). v .kind)
-                      (said-one-thing i (vote next p s x i) (vote next-none p s y i) h g refl refl
-                          (record { period = refl; step = refl; kind = inr (omega arith, omega arith) })) in
-            omega arith
-        ; certain-goes-on = λ p s x y i h g.
-            said-certain-on i (vote cert p 0 x i) (vote next p s y i) h g refl refl refl (omega arith) refl .1
-        ; certain-not-none = λ p s x y i h g.
+            ap (λ (v : Vote). v .kind)
+            (said-one-thing i (vote next p s x i) (vote next-none p s y i) h g refl refl
+            (record { period = refl; step = refl; kind = inr (omega arith, omega arith) })) in
+            omega arith;
+        certain-goes-on = λ p s x y i h g.
+            said-certain-on i (vote cert p 0 x i) (vote next p s y i) h g refl refl refl (omega arith) refl .1;
+        certain-not-none = λ p s x y i h g.
             let v : Vote = vote cert p 0 x i in
             let u : Vote = vote next-none p s y i in
             let same : next-none ≡ next = said-certain-on i v u h g refl refl refl (omega arith) refl .0 in
-            omega arith }
+            omega arith;
+      }
 
 -- THE PROMISES
 
@@ -111,17 +114,18 @@ one-shown-certified l faulty w few sound =
 pub one-certified : (can : ℕ → Bool) → One-certified can
 one-certified can l faulty w good few r p q a b vs us cv cu =
     one-shown-certified l faulty w few (reachable-sound l faulty r) p q a b
-        (bundle-shows l faulty w cert p 0 a vs cv) (bundle-shows l faulty w cert q 0 b us cu)
+    (bundle-shows l faulty w cert p 0 a vs cv) (bundle-shows l faulty w cert q 0 b us cu)
 
 -- what is agreed has its block and a quorum
 pub agreed-because : (l : Limits) (faulty : ℕ → Bool) (w : Network) (i a : ℕ) → Sound l faulty w → Honest l faulty i →
     w .member i .agreed ≡ a ∷ [] →
-        (p : ℕ) × (is-in a (w .member i .blocks) ≡ true) × Heard l (w .member i .votes) cert p 0 a
+    (p : ℕ) × (is-in a (w .member i .blocks) ≡ true) × Heard l (w .member i .votes) cert p 0 a
 agreed-because l faulty w i a sound honest e =
-    elim (sound .keeps i honest .agreed)
-        [ inl none ↦ absurd (nil-not-cons a [] (sym none ∙ e))
-        | inr (b, p, is, here, h) ↦
-            (let same : b ≡ a = first-equal b a [] [] (sym is ∙ e) in (p, rw same at here, rw same at h)) ]
+    elim (sound .keeps i honest .agreed) [
+      | inl none ↦ absurd (nil-not-cons a [] (sym none ∙ e))
+      | inr (b, p, is, here, h) ↦
+          (let same : b ≡ a = first-equal b a [] [] (sym is ∙ e) in (p, rw same at here, rw same at h))
+    ]
 
 pub one-agreed : (can : ℕ → Bool) → One-agreed can
 one-agreed can l faulty w good few r i j a b li lj gi gj ea eb =
@@ -131,7 +135,7 @@ one-agreed can l faulty w good few r i j a b li lj gi gj ea eb =
     let (p, x, qa) = agreed-because l faulty w i a sound hi ea in
     let (q, y, qb) = agreed-because l faulty w j b sound hj eb in
     one-shown-certified l faulty w few sound p q a b
-        (heard-shows l faulty w sound i hi cert p 0 a qa) (heard-shows l faulty w sound j hj cert q 0 b qb)
+    (heard-shows l faulty w sound i hi cert p 0 a qa) (heard-shows l faulty w sound j hj cert q 0 b qb)
 
 pub agreed-has-both : (can : ℕ → Bool) → Agreed-has-both can
 agreed-has-both can l faulty w good few r i a li gi e =
@@ -148,12 +152,12 @@ one-chosen can l faulty w good few r i j a b li lj gi gj same ea eb =
     let m : Member = w .member i in
     let n : Member = w .member j in
     let qa : Heard l (m .votes) soft (m .period) 0 a =
-          chosen-has-both l (m .votes) (m .blocks) (m .period) a [] (m .votes) ea .0 in
+    chosen-has-both l (m .votes) (m .blocks) (m .period) a [] (m .votes) ea .0 in
     let qb : Heard l (n .votes) soft (n .period) 0 b =
-          chosen-has-both l (n .votes) (n .blocks) (n .period) b [] (n .votes) eb .0 in
+    chosen-has-both l (n .votes) (n .blocks) (n .period) b [] (n .votes) eb .0 in
     one-shown l faulty w few sound soft (n .period) 0 a b
-        (rw same at (heard-shows l faulty w sound i hi soft (m .period) 0 a qa))
-        (heard-shows l faulty w sound j hj soft (n .period) 0 b qb)
+    (rw same at (heard-shows l faulty w sound i hi soft (m .period) 0 a qa))
+    (heard-shows l faulty w sound j hj soft (n .period) 0 b qb)
 
 pub heard-has-bundle : (can : ℕ → Bool) → Heard-has-bundle can
 heard-has-bundle can l faulty w good few r i k p s x li gi h =
@@ -162,36 +166,42 @@ heard-has-bundle can l faulty w good few r i k p s x li gi h =
 pub one-way-on : (can : ℕ → Bool) → One-way-on can
 one-way-on can l faulty w good few r =
     let sound : Sound l faulty w = reachable-sound l faulty r in
-    record
-      { value-or-none = λ p s a b vs us x y.
+    record {
+      value-or-none = λ p s a b vs us x y.
           no-two-ways (said-in w) (Can-show l faulty w) (counting l faulty (said-in w) few) (history l faulty w sound)
-              p s a b (bundle-shows l faulty w next p s a vs x) (bundle-shows l faulty w next-none p s b us y)
-      ; one-value = λ p s a b vs us x y.
+          p s a b (bundle-shows l faulty w next p s a vs x) (bundle-shows l faulty w next-none p s b us y);
+      one-value = λ p s a b vs us x y.
           one-shown l faulty w few sound next p s a b
-              (bundle-shows l faulty w next p s a vs x) (bundle-shows l faulty w next p s b us y) }
+          (bundle-shows l faulty w next p s a vs x) (bundle-shows l faulty w next p s b us y);
+    }
 
 pub locked-after : (can : ℕ → Bool) → Locked-after can
 locked-after can l faulty w good few r p a i vs c li gi later = go (w .member i .free) refl
   where
     sound : Sound l faulty w
     sound = reachable-sound l faulty r
+
     honest : Honest l faulty i
     honest = record { member = li; not-faulty = gi }
+
     quorums : Quorums (said-in w) (Can-show l faulty w)
     quorums = counting l faulty (said-in w) few
+
     q : ℕ
     q = w .member i .period
+
     shown : Can-show l faulty w cert p 0 a
     shown = bundle-shows l faulty w cert p 0 a vs c
+
     go : (b : Bool) → w .member i .free ≡ b → (w .member i .start ≡ a ∷ []) × (w .member i .free ≡ false)
     go true free =
         absurd (not-free-after (said-in w) (Can-show l faulty w) quorums (history l faulty w sound) p q a shown later
-            (free-shown l faulty w sound i q honest (sound .keeps i honest .came .if-free free .1)))
+        (free-shown l faulty w sound i q honest (sound .keeps i honest .came .if-free free .1)))
     go false held =
         let (x, start, came, small) = sound .keeps i honest .came .else-with held in
         let is : x ≡ a =
-              with-it-after (said-in w) (Can-show l faulty w) quorums (history l faulty w sound) p q a x shown later
-                  (with-shown l faulty w sound i q x honest came) in
+        with-it-after (said-in w) (Can-show l faulty w) quorums (history l faulty w sound) p q a x shown later
+        (with-shown l faulty w sound i q x honest came) in
         (rw is at start, held)
 
 -- WHAT IS SAID, AS LISTS
@@ -215,10 +225,10 @@ module _ (l : Limits) (faulty : ℕ → Bool) (w : Network) (sound : Sound l fau
       let (from, period) = and-parts _ _ c in
       let (step, kind) = and-parts _ _ d in
       let same : v ≡ u =
-            said-one-thing l faulty w sound (u .from) v u hv hu (eqb-true _ _ from) refl
-                (record { period = eqb-true _ _ period; step = eqb-true _ _ step; kind = places _ _ kind }) in
+      said-one-thing l faulty w sound (u .from) v u hv hu (eqb-true _ _ from) refl
+      (record { period = eqb-true _ _ period; step = eqb-true _ _ step; kind = places _ _ kind }) in
       both-ways _ (not-true _ b)
-          (and-from _ _ (eq-eqb _ _ (ap (λ (x : Vote). x .kind) same)) (eq-eqb _ _ (ap (λ (x : Vote). x .value) same)))
+      (and-from _ _ (eq-eqb _ _ (ap (λ (x : Vote). x .kind) same)) (eq-eqb _ _ (ap (λ (x : Vote). x .value) same)))
 
   no-clash-any : (v : Vote) (us : List Vote) → In v (w .said) → ((u : Vote) → In u us → In u (w .said)) →
       clash-any v us ≡ false
@@ -226,14 +236,14 @@ module _ (l : Limits) (faulty : ℕ → Bool) (w : Network) (sound : Sound l fau
   no-clash-any v [] hv sub = refl
   no-clash-any v (u ∷ us) hv sub =
       or-from _ _ (is-false (clash v u) (never-clash v u hv (sub u (in-here u us))))
-          (no-clash-any v us hv (λ x h. sub x (in-later x u us h)))
+      (no-clash-any v us hv (λ x h. sub x (in-later x u us h)))
 
   pub no-clash-in : (us : List Vote) → ((u : Vote) → In u us → In u (w .said)) → no-clash us ≡ true
   unfolding no-clash
   no-clash-in [] sub = refl
   no-clash-in (u ∷ us) sub =
       and-from _ _ (not-from-false _ (no-clash-any u us (sub u (in-here u us)) (λ x h. sub x (in-later x u us h))))
-          (no-clash-in us (λ x h. sub x (in-later x u us h)))
+      (no-clash-in us (λ x h. sub x (in-later x u us h)))
 
 pub says-one-thing : (can : ℕ → Bool) → Says-one-thing can
 says-one-thing can l faulty w good few r = no-clash-in l faulty w (reachable-sound l faulty r) (w .said) (λ u h. h)
@@ -251,4 +261,4 @@ pub said-is-own : (can : ℕ → Bool) → Said-is-own can
 said-is-own can l faulty w good few r i v li gi from =
     let sound : Sound l faulty w = reachable-sound l faulty r in
     same-test _ _ (λ h. sound .said-heard i v h from)
-        (λ h. sound .can-have-come i v (record { member = li; not-faulty = gi }) h (rw from gi))
+    (λ h. sound .can-have-come i v (record { member = li; not-faulty = gi }) h (rw from gi))

@@ -51,25 +51,42 @@ module _ (l : Limits) (i : ℕ) (member : i < l .members) (m : Member) (keeps : 
       Came-free (Heard l (m .votes)) (m .period) ⊎ Came-with (Heard l (m .votes)) (m .period) x →
       New l i (at-step 1 m) (own m soft 0 x)
   may-vote-softly x zero-step because =
-      record
-        { behind = record { not-later = omega arith; soft-behind = λ _ _. omega arith
-                          ; cert-behind = λ e. absurd (omega arith); next-behind = λ e. absurd (omega arith) }
-        ; reason = record { soft-because = λ _. because; cert-because = λ e. absurd (omega arith)
-                          ; next-because = λ e. absurd (omega arith); none-because = λ e. absurd (omega arith) }
-        ; fresh = λ w at mine o. elim (o .kind)
-            [ inl e ↦
-                (let past : 1 ≤ m .step = keeps .behind w at mine .soft-behind (sym e) (sym (o .period)) in omega arith)
-            | inr (a, c) ↦ omega arith ]
-        ; certain-first = λ w at mine e. absurd (omega arith)
-        ; certain-then = λ w at mine e on. absurd (omega arith)
-        ; certain-of = λ e. absurd (omega arith) }
+      record {
+        behind = record {
+          not-later = omega arith;
+          soft-behind = λ _ _. omega arith;
+          cert-behind = λ e. absurd (omega arith);
+          next-behind = λ e. absurd (omega arith);
+        };
+        reason = record {
+          soft-because = λ _. because;
+          cert-because = λ e. absurd (omega arith);
+          next-because = λ e. absurd (omega arith);
+          none-because = λ e. absurd (omega arith);
+        };
+        fresh = λ w at mine o. elim (o .kind) [
+          | inl e ↦
+              (let past : 1 ≤ m .step = keeps .behind w at mine .soft-behind (sym e) (sym (o .period)) in omega arith)
+          | inr (a, c) ↦ omega arith
+        ];
+        certain-first = λ w at mine e. absurd (omega arith);
+        certain-then = λ w at mine e on. absurd (omega arith);
+        certain-of = λ e. absurd (omega arith);
+      }
 
   pub soft-in-range : (x : ℕ) → x < value-bound → Ranged l (own m soft 0 x)
   soft-in-range x small =
-      record
-        { kinds = omega arith; from-1 = keeps .within .from-1; periods = periods; member = rw (keeps .me) member
-        ; value = small; first-step = λ _. refl; later-step = λ e. absurd (omega arith); steps = λ e. absurd (omega arith)
-        ; no-value = λ e. absurd (omega arith) }
+      record {
+        kinds = omega arith;
+        from-1 = keeps .within .from-1;
+        periods = periods;
+        member = rw (keeps .me) member;
+        value = small;
+        first-step = λ _. refl;
+        later-step = λ e. absurd (omega arith);
+        steps = λ e. absurd (omega arith);
+        no-value = λ e. absurd (omega arith);
+      }
 
   pub say-soft-kept : (xs : List ℕ) → soft-value m ≡ xs → m .step ≡ 0 →
       Kept l i (m .votes) (say-soft xs (silent (at-step 1 m)))
@@ -78,8 +95,8 @@ module _ (l : Limits) (i : ℕ) (member : i < l .members) (m : Member) (keeps : 
   say-soft-kept (x ∷ xs) e zero-step =
       let (small, because) = soft-value-because x xs e in
       say-kept l i (m .votes) (silent (at-step 1 m)) (own m soft 0 x)
-          (silent-kept l i (at-step 1 m) (at-step-keeps l i 1 m keeps (omega arith) (omega arith)))
-          (soft-in-range x small) (keeps .me) (may-vote-softly x zero-step because)
+      (silent-kept l i (at-step 1 m) (at-step-keeps l i 1 m keeps (omega arith) (omega arith)))
+      (soft-in-range x small) (keeps .me) (may-vote-softly x zero-step because)
 
   -- LATER STEPS: A VOTE TO GO ON
 
@@ -96,48 +113,70 @@ module _ (l : Limits) (i : ℕ) (member : i < l .members) (m : Member) (keeps : 
 
   pub may-go-on : (k x : ℕ) → 1 ≤ m .step → On k x → New l i (at-step (suc (m .step)) m) (own m k (suc (m .step)) x)
   may-go-on k x some on =
-      record
-        { behind = record { not-later = omega arith; soft-behind = λ e. absurd (omega (arith, on .lo))
-                          ; cert-behind = λ e. absurd (omega (arith, on .lo)); next-behind = λ _ _. omega arith }
-        ; reason = record { soft-because = λ e. absurd (omega (arith, on .lo))
-                          ; cert-because = λ e. absurd (omega (arith, on .lo))
-                          ; next-because = on .next-because; none-because = on .none-because }
-        ; fresh = λ w at mine o.
+      record {
+        behind = record {
+          not-later = omega arith;
+          soft-behind = λ e. absurd (omega (arith, on .lo));
+          cert-behind = λ e. absurd (omega (arith, on .lo));
+          next-behind = λ _ _. omega arith;
+        };
+        reason = record {
+          soft-because = λ e. absurd (omega (arith, on .lo));
+          cert-because = λ e. absurd (omega (arith, on .lo));
+          next-because = on .next-because;
+          none-because = on .none-because;
+        };
+        fresh = λ w at mine o.
             let lo : next ≤ k = on .lo in
             let goes : next ≤ w .kind = elim (o .kind) [ inl e ↦ omega arith | inr (a, c) ↦ c ] in
             let past : w .step ≤ m .step = keeps .behind w at mine .next-behind goes (sym (o .period)) in
             let same : suc (m .step) ≡ w .step = o .step in
-            omega arith
-        ; certain-first = λ w at mine e. absurd (omega (arith, on .lo))
-        ; certain-then = λ w at mine e _ p. on .as-certain w at mine e p
-        ; certain-of = λ e. absurd (omega (arith, on .lo)) }
+            omega arith;
+        certain-first = λ w at mine e. absurd (omega (arith, on .lo));
+        certain-then = λ w at mine e _ p. on .as-certain w at mine e p;
+        certain-of = λ e. absurd (omega (arith, on .lo));
+      }
 
   pub on-in-range : (k x : ℕ) → 1 ≤ m .step → m .step ≤ l .steps → On k x → Ranged l (own m k (suc (m .step)) x)
   on-in-range k x some steps on =
-      record
-        { kinds = on .hi; from-1 = keeps .within .from-1; periods = periods; member = rw (keeps .me) member
-        ; value = on .small; first-step = λ e. absurd (omega (arith, on .lo)); later-step = λ _. omega arith; steps = λ _. omega arith
-        ; no-value = on .none-is-0 }
+      record {
+        kinds = on .hi;
+        from-1 = keeps .within .from-1;
+        periods = periods;
+        member = rw (keeps .me) member;
+        value = on .small;
+        first-step = λ e. absurd (omega (arith, on .lo));
+        later-step = λ _. omega arith;
+        steps = λ _. omega arith;
+        no-value = on .none-is-0;
+      }
 
   pub say-on-kept : (k x : ℕ) → 1 ≤ m .step → m .step ≤ l .steps → On k x →
       Kept l i (m .votes) (say (own m k (suc (m .step)) x) (silent (at-step (suc (m .step)) m)))
   say-on-kept k x some steps on =
       let s : ℕ = suc (m .step) in
       say-kept l i (m .votes) (silent (at-step s m)) (own m k s x)
-          (silent-kept l i (at-step s m) (at-step-keeps l i s m keeps (omega arith) (omega arith)))
-          (on-in-range k x some steps on) (keeps .me) (may-go-on k x some on)
+      (silent-kept l i (at-step s m) (at-step-keeps l i s m keeps (omega arith) (omega arith)))
+      (on-in-range k x some steps on) (keeps .me) (may-go-on k x some on)
 
   -- with the chosen value: it is the one that it was certain of, since a quorum is for one value
   pub on-with-chosen : (x : ℕ) (xs : List ℕ) → chosen l m ≡ x ∷ xs → On next x
   on-with-chosen x xs e =
       let (h, here) = chosen-has-both l (m .votes) (m .blocks) (m .period) x xs (m .votes) e in
       let (j, r) = quorum-in-range l i member m keeps soft (m .period) 0 x h in
-      record
-        { lo = omega arith; hi = omega arith; small = r .value; none-is-0 = λ e. absurd (omega arith)
-        ; next-because = λ _. inl h; none-because = λ e. absurd (omega arith)
-        ; as-certain = λ w at mine c p.
-            (refl, quorum-one l soft (m .period) 0 x (w .value) (m .votes) (omega arith) (keeps .heard .fair) h
-                (keeps .certain-now w at mine c p .0)) }
+      record {
+        lo = omega arith;
+        hi = omega arith;
+        small = r .value;
+        none-is-0 = λ e. absurd (omega arith);
+        next-because = λ _. inl h;
+        none-because = λ e. absurd (omega arith);
+        as-certain = λ w at mine c p. (
+          refl,
+          quorum-one l soft (m .period) 0 x (w .value) (m .votes) (omega arith) (keeps .heard .fair) h
+              (keeps .certain-now w at mine c p .0),
+        );
+      }
 
   -- with none chosen, it was not certain
   pub not-certain : chosen l m ≡ [] → (w : Vote) → In w (m .votes) → w .from ≡ i → w .kind ≡ cert →
@@ -148,20 +187,30 @@ module _ (l : Limits) (i : ℕ) (member : i < l .members) (m : Member) (keeps : 
 
   pub on-with-none : chosen l m ≡ [] → m .free ≡ true → On next-none 0
   on-with-none e free =
-      record
-        { lo = omega arith; hi = omega arith; small = omega arith; none-is-0 = λ _. refl
-        ; next-because = λ e. absurd (omega arith); none-because = λ _. keeps .came .if-free free .1
-        ; as-certain = λ w at mine c p. absurd (not-certain e w at mine c p) }
+      record {
+        lo = omega arith;
+        hi = omega arith;
+        small = omega arith;
+        none-is-0 = λ _. refl;
+        next-because = λ e. absurd (omega arith);
+        none-because = λ _. keeps .came .if-free free .1;
+        as-certain = λ w at mine c p. absurd (not-certain e w at mine c p);
+      }
 
   pub on-with-start : chosen l m ≡ [] → m .free ≡ false → On next (first-or-zero (m .start))
   unfolding first-or-zero
   on-with-start e held =
       let (y, s, came, small) = keeps .came .else-with held in
       let is : first-or-zero (m .start) ≡ y = ap first-or-zero s in
-      record
-        { lo = omega arith; hi = omega arith; small = rw is small; none-is-0 = λ e. absurd (omega arith)
-        ; next-because = λ _. inr (rw is came); none-because = λ e. absurd (omega arith)
-        ; as-certain = λ w at mine c p. absurd (not-certain e w at mine c p) }
+      record {
+        lo = omega arith;
+        hi = omega arith;
+        small = rw is small;
+        none-is-0 = λ e. absurd (omega arith);
+        next-because = λ _. inr (rw is came);
+        none-because = λ e. absurd (omega arith);
+        as-certain = λ w at mine c p. absurd (not-certain e w at mine c p);
+      }
 
   pub say-next-kept : (xs : List ℕ) → chosen l m ≡ xs → 1 ≤ m .step → m .step ≤ l .steps →
       Kept l i (m .votes) (say (next-vote m (suc (m .step)) xs) (silent (at-step (suc (m .step)) m)))
@@ -169,12 +218,12 @@ module _ (l : Limits) (i : ℕ) (member : i < l .members) (m : Member) (keeps : 
   say-next-kept (x ∷ xs) e some steps = say-on-kept next x some steps (on-with-chosen x xs e)
   say-next-kept [] e some steps =
       either (λ v. Kept l i (m .votes) (say v (silent (at-step (suc (m .step)) m)))) (m .free) _ _
-          (λ free. say-on-kept next-none 0 some steps (on-with-none e free))
-          (λ held. say-on-kept next (first-or-zero (m .start)) some steps (on-with-start e held))
+      (λ free. say-on-kept next-none 0 some steps (on-with-none e free))
+      (λ held. say-on-kept next (first-or-zero (m .start)) some steps (on-with-start e held))
 
   pub on-timeout-kept : m .step ≤ l .steps → Kept l i (m .votes) (on-timeout l m)
   on-timeout-kept steps =
       either (Kept l i (m .votes)) (eqb (m .step) 0) (say-soft (soft-value m) (silent (at-step 1 m)))
-          (say (next-vote m (suc (m .step)) (chosen l m)) (silent (at-step (suc (m .step)) m)))
-          (λ h. say-soft-kept (soft-value m) refl (eqb-true _ _ h))
-          (λ h. let other : m .step ≡ 0 → ⊥ = eqb-false _ _ h in say-next-kept (chosen l m) refl (omega arith) steps)
+      (say (next-vote m (suc (m .step)) (chosen l m)) (silent (at-step (suc (m .step)) m)))
+      (λ h. say-soft-kept (soft-value m) refl (eqb-true _ _ h))
+      (λ h. let other : m .step ≡ 0 → ⊥ = eqb-false _ _ h in say-next-kept (chosen l m) refl (omega arith) steps)

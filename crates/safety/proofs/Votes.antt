@@ -32,13 +32,17 @@ slot-of v w h =
     let a : _ = and-parts _ _ h in
     let b : _ = and-parts _ _ (a .0) in
     let c : _ = and-parts _ _ (b .0) in
-    record { kind = eqb-true _ _ (c .0); period = eqb-true _ _ (c .1); step = eqb-true _ _ (b .1)
-           ; from = eqb-true _ _ (a .1) }
+    record {
+      kind = eqb-true _ _ (c .0);
+      period = eqb-true _ _ (c .1);
+      step = eqb-true _ _ (b .1);
+      from = eqb-true _ _ (a .1);
+    }
 
 pub slot-test : (v w : Vote) → Same-place v w → (same-slot v w && eqb (v .from) (w .from)) ≡ true
 slot-test v w s =
     and-from _ _ (and-from _ _ (and-from _ _ (eq-eqb _ _ (s .kind)) (eq-eqb _ _ (s .period))) (eq-eqb _ _ (s .step)))
-        (eq-eqb _ _ (s .from))
+    (eq-eqb _ _ (s .from))
 
 pub vote-of : (v w : Vote) → same-vote v w ≡ true → v ≡ w
 vote-of v w h =
@@ -82,9 +86,10 @@ in-right v (x ∷ xs) ys h = in-later v x (xs ++ ys) (in-right v xs ys h)
 pub in-either : (v : Vote) (xs ys : List Vote) → In v (xs ++ ys) → In v xs ⊎ In v ys
 in-either v [] ys h = inr h
 in-either v (x ∷ xs) ys h =
-    elim (in-cases v x (xs ++ ys) h)
-        [ inl e ↦ inl (in-first v x xs e)
-        | inr k ↦ elim (in-either v xs ys k) [ inl a ↦ inl (in-later v x xs a) | inr b ↦ inr b ] ]
+    elim (in-cases v x (xs ++ ys) h) [
+      | inl e ↦ inl (in-first v x xs e)
+      | inr k ↦ elim (in-either v xs ys k) [ inl a ↦ inl (in-later v x xs a) | inr b ↦ inr b ]
+    ]
 
 -- SLOTS
 
@@ -94,7 +99,7 @@ unfolding slot-taken
 slot-free v [] none = refl
 slot-free v (w ∷ ws) none =
     or-from _ _ (here (same-slot v w && eqb (v .from) (w .from)) refl)
-        (slot-free v ws (λ u h. none u (in-later u w ws h)))
+    (slot-free v ws (λ u h. none u (in-later u w ws h)))
   where
     here : (b : Bool) → (same-slot v w && eqb (v .from) (w .from)) ≡ b → b ≡ false
     here true e = absurd (none w (in-here w ws) (slot-of v w e))
@@ -106,11 +111,11 @@ free-slot v w [] free h s = in-none w h
 free-slot v w (u ∷ us) free h s =
     let f : _ = or-parts _ _ free in
     elim (in-cases w u us h)
-        [ inl e ↦ both-ways _ (f .0) (slot-test v u (rw e at s)) | inr k ↦ free-slot v w us (f .1) k s ]
+    [ inl e ↦ both-ways _ (f .0) (slot-test v u (rw e at s)) | inr k ↦ free-slot v w us (f .1) k s ]
 
 pub slot-has : (v w : Vote) (ws : List Vote) → In w ws → Same-place v w → slot-taken v ws ≡ true
 unfolding slot-taken
 slot-has v w [] h s = absurd (in-none w h)
 slot-has v w (u ∷ us) h s =
     elim (in-cases w u us h)
-        [ inl e ↦ or-left _ _ (slot-test v u (rw e at s)) | inr k ↦ or-right _ _ (slot-has v w us k s) ]
+    [ inl e ↦ or-left _ _ (slot-test v u (rw e at s)) | inr k ↦ or-right _ _ (slot-has v w us k s) ]

@@ -46,7 +46,7 @@ Own-fresh = After-any Fresh
 abbrev pub One-value-heard : Type 0
 One-value-heard =
     After-any (λ l i m. (k p s a b : ℕ) →
-        has-quorum l k p s a (m .votes) ≡ true → has-quorum l k p s b (m .votes) ≡ true → a ≡ b)
+    has-quorum l k p s a (m .votes) ≡ true → has-quorum l k p s b (m .votes) ≡ true → a ≡ b)
 
 -- It is free and began with nothing, or it began with one value and is not free.
 pub record Began (m : Member) : Type 0 where

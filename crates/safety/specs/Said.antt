@@ -10,4 +10,4 @@ use Rattle.protocol.specs.Promises.{Ever}
 abbrev pub Said-is-own : (ℕ → Bool) → Type 0
 Said-is-own can =
     Ever can (λ l faulty w. (i : ℕ) (v : Vote) → i < l .members → faulty i ≡ false → v .from ≡ i →
-        is-vote-in v (w .said) ≡ is-vote-in v (w .member i .votes))
+    is-vote-in v (w .said) ≡ is-vote-in v (w .member i .votes))

@@ -33,7 +33,7 @@ module _ (sep : ℕ) where
   pieces-at (suc i) (c ∷ cs) h within here =
       let parts : (not (eqb c sep) ≡ true) × (free-of sep (take i cs) ≡ true) = and-parts _ _ h in
       onto-piece c cs (take i cs) (pieces sep (drop (suc i) cs)) (parts .0)
-          (pieces-at i cs (parts .1) (le-of-suc-le-suc within) here)
+      (pieces-at i cs (parts .1) (le-of-suc-le-suc within) here)
 
   -- one byte more that is no separator
   pub free-more : (i : ℕ) (cs : List ℕ) → free-of sep (take i cs) ≡ true → i < length cs → (getD cs i 0 ≡ sep → ⊥) →
@@ -53,6 +53,7 @@ module _ (sep : ℕ) where
       onto : (ws : List (List ℕ)) → onto-first c ws ≡ [] → _≡_ {A = ℕ} 0 1
       onto [] h = cc
       onto (w ∷ ws) h = cc
+
       some : (b : Bool) (ws : List (List ℕ)) → cond b ([] ∷ ws) (onto-first c ws) ≡ [] → _≡_ {A = ℕ} 0 1
       some true ws h = cc
       some false ws h = onto ws h

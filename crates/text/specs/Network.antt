@@ -46,4 +46,4 @@ Reads line (Err (NotNumber limit)) =
     (m : List ℕ) × ((p : List ℕ) × ((s : List ℕ) × ((b : List ℕ) × ((words line ≡ network m p s b) × First-no-number limit m p s b))))
 Reads line (Err (OutOfRange limit)) =
     (m : ℕ) × ((p : ℕ) × ((s : ℕ) × ((b : ℕ) × ((words line ≡ network (decimal m) (decimal p) (decimal s) (decimal b))
-        × (first-bad m p s b ≡ Some limit)))))
+    × (first-bad m p s b ≡ Some limit)))))

@@ -40,10 +40,16 @@ fn most_of(limit: Limit) -> u64 {
 pub impl fmt::Display for NetworkError as NetworkErrorDisplay {
     fn fmt<W: fmt::Write>(&self, f: &mut fmt::Formatter<W>) -> fmt::Result {
         match *self {
-            NetworkError::NotNetwork => write!(f, "it is not 'network MEMBERS PERIODS STEPS BLOCKS'"),
+            NetworkError::NotNetwork => write!(
+                f,
+                "it is not 'network MEMBERS PERIODS STEPS BLOCKS'"
+            ),
             NetworkError::NotNumber(limit) => {
                 let name = name_of(limit);
-                write!(f, "{name} is no number below 2^64 in decimal without zeros before it")
+                write!(
+                    f,
+                    "{name} is no number below 2^64 in decimal without zeros before it"
+                )
             }
             NetworkError::OutOfRange(limit) => {
                 let name = name_of(limit);

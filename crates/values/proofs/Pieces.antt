@@ -22,10 +22,10 @@ front-more xs n q now h k p part long is =
     record {
       long = length-append q p ∙ omega (arith, h .long);
       is =
-        let before : take n now ≡ q = ap (take n) (h .is) ∙ take-at q (drop n xs) n (h .long) in
-        let rest : drop n now ≡ drop n xs = ap (drop n) (h .is) ∙ drop-at q (drop n xs) n (h .long) in
-        let past : drop k (drop n now) ≡ drop (n + k) xs = ap (drop k) rest ∙ drop-drop k n xs in
-        (λ i. before i ++ (is i ++ past i)) ∙ sym (append-assoc q p (drop (n + k) xs));
+          let before : take n now ≡ q = ap (take n) (h .is) ∙ take-at q (drop n xs) n (h .long) in
+          let rest : drop n now ≡ drop n xs = ap (drop n) (h .is) ∙ drop-at q (drop n xs) n (h .long) in
+          let past : drop k (drop n now) ≡ drop (n + k) xs = ap (drop k) rest ∙ drop-drop k n xs in
+          (λ i. before i ++ (is i ++ past i)) ∙ sym (append-assoc q p (drop (n + k) xs));
     }
 
 -- all of the bytes

@@ -12,7 +12,16 @@ pub fn read_number(part: &[u8]) -> u64
     ensures is { λ r. ⌜ r ≡ le-number (now (part .entry)) ⌝ }
     ensures bytes { λ r. ⌜ le-bytes 8 r ≡ now (part .entry) ⌝ }
 {
-    u64::from_le_bytes([part[0], part[1], part[2], part[3], part[4], part[5], part[6], part[7]])
+    u64::from_le_bytes([
+        part[0],
+        part[1],
+        part[2],
+        part[3],
+        part[4],
+        part[5],
+        part[6],
+        part[7],
+    ])
 }
 
 // The eight bytes of a number.

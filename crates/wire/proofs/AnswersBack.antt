@@ -52,9 +52,10 @@ votes-back bs (v ∷ vs) i r fit is =
 -- what stands at i, and how many bytes there are
 at-drop : (bs A : List ℕ) (i : ℕ) → drop i bs ≡ A → 0 < length A →
     (getD bs i 0 ≡ getD A 0 0) × (length bs ≡ i + length A)
-at-drop bs A i is some =
-    (sym (getD-drop i bs 0 0 ∙ ap (λ n. getD bs n 0) (add-zero i)) ∙ ap (λ l. getD l 0 0) is,
-     omega (arith, length-drop i bs, ap length is))
+at-drop bs A i is some = (
+  sym (getD-drop i bs 0 0 ∙ ap (λ n. getD bs n 0) (add-zero i)) ∙ ap (λ l. getD l 0 0) is,
+  omega (arith, length-drop i bs, ap length is),
+)
 
 agreed-back : (bs : List ℕ) (i : ℕ) (vs : List Vote) (xs : List ℕ) → agreed-fits xs ≡ true →
     drop i bs ≡ agreed-bytes xs →
@@ -101,12 +102,12 @@ answers-read-back (says vs xs) fit =
     let bs = answer-bytes (says vs xs) in
     let A = agreed-bytes xs in
     let nested : drop 1 bs ≡ le-bytes 8 n ++ (joined vote-bytes vs ++ A) =
-        append-assoc (le-bytes 8 n) (joined vote-bytes vs) A in
+    append-assoc (le-bytes 8 n) (joined vote-bytes vs) A in
     let count = field bs _ 1 8 n (omega arith) nested in
     let votes = votes-back bs vs 9 A (rest .0) (count .1) in
     let some = some-agreed xs in
     let long : length bs ≡ suc (8 + 64 * n + length A) =
-        ap suc (length-append (said-bytes vs) A ∙ ap (λ k. k + length A) (length-said vs)) in
+    ap suc (length-append (said-bytes vs) A ∙ ap (λ k. k + length A) (length-said vs)) in
     answer-at bs 1 (some-bytes bs (omega arith)) refl
     ∙ reaching-is Err 8 bs _ (omega arith)
     ∙ ap (λ k. says-by k bs) (count .0)
@@ -120,7 +121,7 @@ pub answer-written-back : (a : Answer) (before after : List ℕ) (r : Result ℕ
     Written (answer-bytes a) before after r → made r (λ n. answer-in (take n after) ≡ Ok a)
 answer-written-back a before after (Ok n) fit w =
     let bytes : take n after ≡ answer-bytes a =
-        ap (take n) (w .2) ∙ take-at (answer-bytes a) (drop n before) n (sym (w .0)) in
+    ap (take n) (w .2) ∙ take-at (answer-bytes a) (drop n before) n (sym (w .0)) in
     ap answer-in bytes ∙ answers-read-back a fit
 answer-written-back a before after (Err n) fit w = tt
 

@@ -77,11 +77,11 @@ module _ (bs : List ℕ) (u : under 256 bs ≡ true) where
   refused-spelled first some =
       cond-both _ _ _ Spelled
       (λ known. sized-cases Spelled Err 17 bs _ (λ _. not-read _) (λ _. not-read _)
-          (λ long.
-              let all = read-more bs 9 _ (number-spelled 0 first some) 8 _ (field-bytes 9 8 bs u (omega arith)) in
-              was-read (refused (le-number (part 1 8 bs)) (le-number (part 9 8 bs)))
-              (sym all ∙ take-all 17 bs (omega arith))
-              (and-from _ _ known (lt-ltb _ _ (part-below 9 8 bs u)))))
+      (λ long.
+      let all = read-more bs 9 _ (number-spelled 0 first some) 8 _ (field-bytes 9 8 bs u (omega arith)) in
+      was-read (refused (le-number (part 1 8 bs)) (le-number (part 9 8 bs)))
+      (sym all ∙ take-all 17 bs (omega arith))
+      (and-from _ _ known (lt-ltb _ _ (part-below 9 8 bs u)))))
       (λ _. not-read 1)
 
   -- n votes at 9, and what is agreed on after them
@@ -108,38 +108,38 @@ module _ (bs : List ℕ) (u : under 256 bs ≡ true) where
     agreed-spelled =
         cond-both _ _ _ Spelled
         (λ flag. sized-cases Spelled Err (end + 1) bs _ (λ _. not-read _) (λ _. not-read _)
-            (λ long.
-                was-read (says votes [])
-                (sym (byte-more end 0 _ some (eqb-true _ _ flag) said-spelled) ∙ take-all (end + 1) bs (omega arith))
-                (said-fits [] refl)))
+        (λ long.
+        was-read (says votes [])
+        (sym (byte-more end 0 _ some (eqb-true _ _ flag) said-spelled) ∙ take-all (end + 1) bs (omega arith))
+        (said-fits [] refl)))
         (λ _. cond-both _ _ _ Spelled
-            (λ flag. sized-cases Spelled Err (end + 33) bs _ (λ _. not-read _) (λ _. not-read _)
-                (λ long.
-                    let x = le-number (part (end + 1) 32 bs) in
-                    let mark = byte-more end 1 _ some (eqb-true _ _ flag) said-spelled in
-                    let all = read-more bs (end + 1) _ mark 32 _ (field-bytes (end + 1) 32 bs u (omega arith)) in
-                    let nested = append-assoc (1 ∷ said-bytes votes) (1 ∷ []) (le-bytes 32 x) in
-                    was-read (says votes (x ∷ []))
-                    (sym nested ∙ sym all ∙ take-all (end + 1 + 32) bs (omega arith))
-                    (said-fits (x ∷ []) (lt-ltb _ _ (part-below (end + 1) 32 bs u)))))
-            (λ _. not-read _))
+        (λ flag. sized-cases Spelled Err (end + 33) bs _ (λ _. not-read _) (λ _. not-read _)
+        (λ long.
+        let x = le-number (part (end + 1) 32 bs) in
+        let mark = byte-more end 1 _ some (eqb-true _ _ flag) said-spelled in
+        let all = read-more bs (end + 1) _ mark 32 _ (field-bytes (end + 1) 32 bs u (omega arith)) in
+        let nested = append-assoc (1 ∷ said-bytes votes) (1 ∷ []) (le-bytes 32 x) in
+        was-read (says votes (x ∷ []))
+        (sym nested ∙ sym all ∙ take-all (end + 1 + 32) bs (omega arith))
+        (said-fits (x ∷ []) (lt-ltb _ _ (part-below (end + 1) 32 bs u)))))
+        (λ _. not-read _))
 
   says-spelled : getD bs 0 0 ≡ 1 → 8 < length bs → Spelled (says-by (le-number (part 1 8 bs)) bs)
   says-spelled first some =
       cond-both _ _ _ Spelled
       (λ few. cond-both _ _ _ Spelled (λ _. not-read _)
-          (λ on. agreed-spelled _ few (number-spelled 1 first some) (leb-false _ _ on)))
+      (λ on. agreed-spelled _ few (number-spelled 1 first some) (leb-false _ _ on)))
       (λ _. not-read 1)
 
   answer-spelled : Spelled (answer-by (getD bs 0 0) bs)
   answer-spelled =
       cond-both _ _ _ Spelled
       (λ zero. cond-both _ _ _ Spelled (λ _. not-read _)
-          (λ long. refused-spelled (eqb-true _ _ zero) (leb-false _ _ long)))
+      (λ long. refused-spelled (eqb-true _ _ zero) (leb-false _ _ long)))
       (λ _. cond-both _ _ _ Spelled
-          (λ one. cond-both _ _ _ Spelled (λ _. not-read _)
-              (λ long. says-spelled (eqb-true _ _ one) (leb-false _ _ long)))
-          (λ _. not-read 0))
+      (λ one. cond-both _ _ _ Spelled (λ _. not-read _)
+      (λ long. says-spelled (eqb-true _ _ one) (leb-false _ _ long)))
+      (λ _. not-read 0))
 
 pub answers-one-spelling : Answers-one-spelling
 unfolding answer-in

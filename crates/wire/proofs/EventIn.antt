@@ -65,16 +65,16 @@ module _ (bs : List ℕ) where
   event-cases P empty unknown short long vote proposal block time =
       cond-both _ _ _ P (λ h. empty (eqb-true _ _ h))
       (λ h.
-          let some : 0 < length bs = omega (arith, eqb-false _ _ h) in
-          let one : (t n : ℕ) (e : Event) → getD bs 0 0 ≡ t → Sizes t n → (length bs ≡ n → P e) → P (sized unreadable n bs e) =
-              λ t n e is size whole.
-                  let size′ : Sizes (getD bs 0 0) n = rw is size in
-                  sized-cases P unreadable n bs e (short n size′ some) (long n size′) whole in
-          cond-both _ _ _ P (λ p. let is = eqb-true _ _ p in one 0 65 _ is of-vote (vote is))
-          (λ p. cond-both _ _ _ P (λ q. let is = eqb-true _ _ q in one 1 49 _ is of-proposal (proposal is))
-          (λ q. cond-both _ _ _ P (λ r. let is = eqb-true _ _ r in one 2 33 _ is of-block (block is))
-          (λ r. cond-both _ _ _ P (λ s. let is = eqb-true _ _ s in one 3 1 _ is of-timeout (time is))
-          (λ s. unknown some (omega (arith, eqb-false _ _ p, eqb-false _ _ q, eqb-false _ _ r, eqb-false _ _ s)))))))
+      let some : 0 < length bs = omega (arith, eqb-false _ _ h) in
+      let one : (t n : ℕ) (e : Event) → getD bs 0 0 ≡ t → Sizes t n → (length bs ≡ n → P e) → P (sized unreadable n bs e) =
+      λ t n e is size whole.
+      let size′ : Sizes (getD bs 0 0) n = rw is size in
+      sized-cases P unreadable n bs e (short n size′ some) (long n size′) whole in
+      cond-both _ _ _ P (λ p. let is = eqb-true _ _ p in one 0 65 _ is of-vote (vote is))
+      (λ p. cond-both _ _ _ P (λ q. let is = eqb-true _ _ q in one 1 49 _ is of-proposal (proposal is))
+      (λ q. cond-both _ _ _ P (λ r. let is = eqb-true _ _ r in one 2 33 _ is of-block (block is))
+      (λ r. cond-both _ _ _ P (λ s. let is = eqb-true _ _ s in one 3 1 _ is of-timeout (time is))
+      (λ s. unknown some (omega (arith, eqb-false _ _ p, eqb-false _ _ q, eqb-false _ _ r, eqb-false _ _ s)))))))
 
   -- what is read fits its bytes
   pub event-fits : under 256 bs ≡ true → length bs < 2 ^ 64 → readable (event-in bs) ≡ true

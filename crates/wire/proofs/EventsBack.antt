@@ -64,11 +64,11 @@ events-one-spelling bs u =
     (λ _ _ _ _ no. absurd (false≢true no))
     (λ _ _ _ no. absurd (false≢true no))
     (λ first long _.
-        let fields = length-part 1 64 bs (omega arith) in
-        whole-by-part bs 0 64 _ first long (vote-spelled _ (under-part 1 64 bs u) fields))
+    let fields = length-part 1 64 bs (omega arith) in
+    whole-by-part bs 0 64 _ first long (vote-spelled _ (under-part 1 64 bs u) fields))
     (λ first long _.
-        let fields = length-part 1 48 bs (omega arith) in
-        whole-by-part bs 1 48 _ first long (proposal-spelled _ (under-part 1 48 bs u) fields))
+    let fields = length-part 1 48 bs (omega arith) in
+    whole-by-part bs 1 48 _ first long (proposal-spelled _ (under-part 1 48 bs u) fields))
     (λ first long _. whole-by-part bs 2 32 _ first long (field-bytes 1 32 bs u (omega arith)))
     (λ first long _. whole-by-part bs 3 0 [] first long refl)
 
@@ -77,5 +77,5 @@ pub written-back : (e e′ : Event) (before after : List ℕ) (n : ℕ) → e �
     Written (event-bytes e) before after (Ok n) → event-in (take n after) ≡ e
 written-back e e′ before after n same is fits w =
     let bytes : take n after ≡ event-bytes e =
-        ap (take n) (w .2) ∙ take-at (event-bytes e) (drop n before) n (sym (w .0)) in
+    ap (take n) (w .2) ∙ take-at (event-bytes e) (drop n before) n (sym (w .0)) in
     ap event-in (bytes ∙ ap event-bytes same) ∙ events-read-back e′ is fits ∙ sym same

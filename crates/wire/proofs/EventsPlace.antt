@@ -68,7 +68,7 @@ begins-size : (bs : List ℕ) → 0 < length bs → Begins bs → (n : ℕ) × (
 begins-size bs some (e, (rest, (is, fits, bytes))) =
     let size = sizes-of e is in
     let first : getD (event-bytes e) 0 0 ≡ getD bs 0 0 =
-        ap (λ l. getD l 0 0) bytes ∙ getD-append-left bs rest 0 0 some in
+    ap (λ l. getD l 0 0) bytes ∙ getD-append-left bs rest 0 0 some in
     let P : ℕ → Type 0 = λ t. Sizes t (length (event-bytes e)) in
     (length (event-bytes e), (subst P first size, omega (arith, ap length bytes, length-append bs rest)))
 
@@ -87,7 +87,7 @@ module _ (bs : List ℕ) (u : under 256 bs ≡ true) where
       let first : getD bs 0 0 ≡ getD (bs ++ zeros) 0 0 = sym (getD-append-left bs zeros 0 0 some) in
       let P : ℕ → Type 0 = λ t. Sizes t n in
       let long : length (bs ++ zeros) ≡ n =
-          length-append bs zeros ∙ omega (arith, length-replicate {A = ℕ} (n - length bs) 0) in
+      length-append bs zeros ∙ omega (arith, length-replicate {A = ℕ} (n - length bs) 0) in
       rw (take-all (length bs) bs (omega arith))
       (begins-whole bs (bs ++ zeros) zeros n (subst P first size) long (under-append 256 bs zeros u (under-zeros _)) refl)
 
@@ -98,46 +98,58 @@ module _ (bs : List ℕ) (u : under 256 bs ≡ true) where
       let first : getD bs 0 0 ≡ getD (take n bs) 0 0 = sym (getD-take n bs 0 0 (omega arith)) in
       let first′ : getD (take (suc n) bs) 0 0 ≡ getD bs 0 0 = getD-take (suc n) bs 0 0 (omega arith) in
       let long′ : length (take (suc n) bs) ≡ suc n = length-take-le (suc n) bs (omega arith) in
-      let long : length (take n bs) ≡ n = length-take-le n bs (omega arith) in
-      (begins-whole (take n bs) (take n bs) [] n (subst P first size) long (under-take 256 n bs u) (sym (append-nil _)),
-       λ b.
-          let s = begins-size (take (suc n) bs) (omega arith) b in
-          let Q : ℕ → Type 0 = λ t. Sizes t (s .0) in
-          let same = one-size _ n (s .0) size (subst Q first′ (s .1 .0)) in
-          omega (arith, s .1 .1))
+      let long : length (take n bs) ≡ n = length-take-le n bs (omega arith) in (
+        begins-whole (take n bs) (take n bs) [] n (subst P first size) long (under-take 256 n bs u) (sym (append-nil _)),
+        λ b.
+            let s = begins-size (take (suc n) bs) (omega arith) b in
+            let Q : ℕ → Type 0 = λ t. Sizes t (s .0) in
+            let same = one-size _ n (s .0) size (subst Q first′ (s .1 .0)) in
+            omega (arith, s .1 .1),
+      )
 
 pub events-place : Events-place
 events-place bs n u bad =
     event-cases bs (λ e. e ≡ unreadable n → Ceases bs n)
     (λ none is.
-        let zero : 0 ≡ n = cc in
-        let P : ℕ → Type 0 = λ k. Ceases bs k in
-        subst P zero
-        (record { within = omega arith; before = begins-none; there = λ some. absurd (omega arith)
-                ; none = none-whole bs u n bad }))
+    let zero : 0 ≡ n = cc in
+    let P : ℕ → Type 0 = λ k. Ceases bs k in
+    subst P zero
+    (record {
+      within = omega arith;
+      before = begins-none;
+      there = λ some. absurd (omega arith);
+      none = none-whole bs u n bad;
+    }))
     (λ some other is.
-        let zero : 0 ≡ n = cc in
-        let P : ℕ → Type 0 = λ k. Ceases bs k in
-        let first : getD (take 1 bs) 0 0 ≡ getD bs 0 0 = getD-take 1 bs 0 0 (omega arith) in
-        let one : length (take 1 bs) ≡ 1 = length-take-le 1 bs (omega arith) in
-        subst P zero
-        (record { within = omega arith; before = begins-none
-                ; there = λ _ b.
-                    let s = begins-size (take 1 bs) (omega arith) b in
-                    omega (arith, sizes-bound _ _ (s .1 .0) .0)
-                ; none = none-whole bs u n bad }))
+    let zero : 0 ≡ n = cc in
+    let P : ℕ → Type 0 = λ k. Ceases bs k in
+    let first : getD (take 1 bs) 0 0 ≡ getD bs 0 0 = getD-take 1 bs 0 0 (omega arith) in
+    let one : length (take 1 bs) ≡ 1 = length-take-le 1 bs (omega arith) in
+    subst P zero
+    (record {
+      within = omega arith;
+      before = begins-none;
+      there = λ _ b.
+          let s = begins-size (take 1 bs) (omega arith) b in
+          omega (arith, sizes-bound _ _ (s .1 .0) .0);
+      none = none-whole bs u n bad;
+    }))
     (λ m size some short is.
-        let same : length bs ≡ n = cc in
-        let P : ℕ → Type 0 = λ k. Ceases bs k in
-        subst P same
-        (record { within = omega arith; before = ceases-short bs u m size some short; there = λ on. absurd (omega arith)
-                ; none = none-whole bs u n bad }))
+    let same : length bs ≡ n = cc in
+    let P : ℕ → Type 0 = λ k. Ceases bs k in
+    subst P same
+    (record {
+      within = omega arith;
+      before = ceases-short bs u m size some short;
+      there = λ on. absurd (omega arith);
+      none = none-whole bs u n bad;
+    }))
     (λ m size more is.
-        let same : m ≡ n = cc in
-        let P : ℕ → Type 0 = λ k. Ceases bs k in
-        let long = ceases-long bs u m size more in
-        subst P same
-        (record { within = omega arith; before = long .0; there = λ _. long .1; none = none-whole bs u n bad }))
+    let same : m ≡ n = cc in
+    let P : ℕ → Type 0 = λ k. Ceases bs k in
+    let long = ceases-long bs u m size more in
+    subst P same
+    (record { within = omega arith; before = long .0; there = λ _. long .1; none = none-whole bs u n bad }))
     (λ _ _ is. let z : _≡_ {A = ℕ} 0 1 = cc in absurd (omega arith))
     (λ _ _ is. let z : _≡_ {A = ℕ} 0 1 = cc in absurd (omega arith))
     (λ _ _ is. let z : _≡_ {A = ℕ} 0 1 = cc in absurd (omega arith))

@@ -44,7 +44,7 @@ vote-fits bs u =
     and-from _ _
     (and-from _ _ (lt-ltb _ _ (part-below 0 8 bs u)) (lt-ltb _ _ (part-below 8 8 bs u)))
     (and-from _ _ (and-from _ _ (lt-ltb _ _ (part-below 16 8 bs u)) (lt-ltb _ _ (part-below 56 8 bs u)))
-        (lt-ltb _ _ (part-below 24 32 bs u)))
+    (lt-ltb _ _ (part-below 24 32 bs u)))
 
 pub proposal-fits : (bs : List ℕ) → under 256 bs ≡ true → readable (got-proposal (proposal-in bs)) ≡ true
 unfolding readable proposal-in

@@ -39,7 +39,7 @@ vote-back v fits =
     let bs = vote-bytes v in
     let end = le-bytes 32 (v .value) ++ (le-bytes 8 (v .from) ++ []) in
     let nested : drop 0 bs ≡ le-bytes 8 (v .kind) ++ (le-bytes 8 (v .period) ++ (le-bytes 8 (v .step) ++ end)) =
-        simp (append-assoc, append-nil) in
+    simp (append-assoc, append-nil) in
     let kind = field bs _ 0 8 (v .kind) (ltb-true _ _ (first .0)) nested in
     let period = field bs _ 8 8 (v .period) (ltb-true _ _ (first .1)) (kind .1) in
     let step = field bs _ 16 8 (v .step) (ltb-true _ _ (some .0)) (period .1) in
@@ -54,7 +54,7 @@ proposal-back o fits =
     let first = and-parts _ _ (parts .0) in
     let bs = proposal-bytes o in
     let nested : drop 0 bs ≡ le-bytes 8 (o .period) ++ (le-bytes 8 (o .rank) ++ (le-bytes 32 (o .value) ++ [])) =
-        simp (append-assoc, append-nil) in
+    simp (append-assoc, append-nil) in
     let period = field bs _ 0 8 (o .period) (ltb-true _ _ (first .0)) nested in
     let rank = field bs _ 8 8 (o .rank) (ltb-true _ _ (first .1)) (period .1) in
     let value = field bs _ 16 32 (o .value) (ltb-true _ _ (parts .1)) (rank .1) in

@@ -19,7 +19,7 @@ use Rattle.protocol.specs.Member.{Event, got-vote, got-proposal, got-block, tim
 unfoldable pub vote-bytes : Vote → List ℕ
 vote-bytes v =
     le-bytes 8 (v .kind) ++ le-bytes 8 (v .period) ++ le-bytes 8 (v .step)
-        ++ le-bytes 32 (v .value) ++ le-bytes 8 (v .from)
+    ++ le-bytes 32 (v .value) ++ le-bytes 8 (v .from)
 
 -- period, rank, value: 48 bytes
 unfoldable pub proposal-bytes : Proposal → List ℕ
@@ -61,8 +61,13 @@ part i k bs = take k (drop i bs)
 
 unfoldable pub vote-in : List ℕ → Vote
 vote-in bs =
-    record { kind = le-number (part 0 8 bs); period = le-number (part 8 8 bs); step = le-number (part 16 8 bs)
-           ; value = le-number (part 24 32 bs); from = le-number (part 56 8 bs) }
+    record {
+      kind = le-number (part 0 8 bs);
+      period = le-number (part 8 8 bs);
+      step = le-number (part 16 8 bs);
+      value = le-number (part 24 32 bs);
+      from = le-number (part 56 8 bs);
+    }
 
 unfoldable pub proposal-in : List ℕ → Proposal
 proposal-in bs =
@@ -76,10 +81,10 @@ sized place n bs a = cond (ltb (length bs) n) (place (length bs)) (cond (ltb n (
 abbrev pub event-by : ℕ → List ℕ → Event
 event-by t bs =
     cond (eqb t 0) (sized unreadable 65 bs (got-vote (vote-in (part 1 64 bs))))
-        (cond (eqb t 1) (sized unreadable 49 bs (got-proposal (proposal-in (part 1 48 bs))))
-            (cond (eqb t 2) (sized unreadable 33 bs (got-block (le-number (part 1 32 bs))))
-                (cond (eqb t 3) (sized unreadable 1 bs timeout)
-                    (unreadable 0))))
+    (cond (eqb t 1) (sized unreadable 49 bs (got-proposal (proposal-in (part 1 48 bs))))
+    (cond (eqb t 2) (sized unreadable 33 bs (got-block (le-number (part 1 32 bs))))
+    (cond (eqb t 3) (sized unreadable 1 bs timeout)
+    (unreadable 0))))
 
 -- the first byte is the event's number
 unfoldable pub event-in : List ℕ → Event
@@ -105,21 +110,21 @@ refused-by r bs = cond (leb 1 r && leb r 6) (sized Err 17 bs (Ok (refused r (le-
 abbrev pub agreed-by : ℕ → ℕ → List Vote → List ℕ → Result Answer ℕ
 agreed-by t i vs bs =
     cond (eqb t 0) (sized Err (i + 1) bs (Ok (says vs [])))
-        (cond (eqb t 1) (sized Err (i + 33) bs (Ok (says vs (le-number (part (i + 1) 32 bs) ∷ []))))
-            (Err i))
+    (cond (eqb t 1) (sized Err (i + 33) bs (Ok (says vs (le-number (part (i + 1) 32 bs) ∷ []))))
+    (Err i))
 
 -- n votes are said: they are at 9
 abbrev pub says-by : ℕ → List ℕ → Result Answer ℕ
 says-by n bs =
     cond (leb n 2)
-        (reaching Err (9 + 64 * n) bs (agreed-by (getD bs (9 + 64 * n) 0) (9 + 64 * n) (votes-in 9 n bs) bs))
-        (Err 1)
+    (reaching Err (9 + 64 * n) bs (agreed-by (getD bs (9 + 64 * n) 0) (9 + 64 * n) (votes-in 9 n bs) bs))
+    (Err 1)
 
 abbrev pub answer-by : ℕ → List ℕ → Result Answer ℕ
 answer-by t bs =
     cond (eqb t 0) (reaching Err 8 bs (refused-by (le-number (part 1 8 bs)) bs))
-        (cond (eqb t 1) (reaching Err 8 bs (says-by (le-number (part 1 8 bs)) bs))
-            (Err 0))
+    (cond (eqb t 1) (reaching Err 8 bs (says-by (le-number (part 1 8 bs)) bs))
+    (Err 0))
 
 unfoldable pub answer-in : List ℕ → Result Answer ℕ
 answer-in bs = cond (eqb (length bs) 0) (Err 0) (answer-by (getD bs 0 0) bs)

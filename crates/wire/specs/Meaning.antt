@@ -35,8 +35,8 @@ kind-number NextNone = protocol.next-none
 abbrev pub kind-of : ℕ → Option Kind
 kind-of n =
     cond (eqb n protocol.soft) (Some Soft)
-        (cond (eqb n protocol.cert) (Some Cert)
-            (cond (eqb n protocol.next) (Some Next) (cond (eqb n protocol.next-none) (Some NextNone) None)))
+    (cond (eqb n protocol.cert) (Some Cert)
+    (cond (eqb n protocol.next) (Some Next) (cond (eqb n protocol.next-none) (Some NextNone) None)))
 
 abbrev pub vote-of : Vote → protocol.Vote
 vote-of v = record { kind = v .kind; period = v .period; step = v .step; value = value-of (v .value); from = v .from }
@@ -67,11 +67,11 @@ refusal-number NoMoreBlocks = no-more-blocks
 abbrev pub refusal-of : ℕ → Option Refusal
 refusal-of n =
     cond (eqb n no-event) (Some NoEvent)
-        (cond (eqb n out-of-range) (Some OutOfRange)
-            (cond (eqb n agreed-before) (Some AgreedBefore)
-                (cond (eqb n voted-before) (Some VotedBefore)
-                    (cond (eqb n no-more-time) (Some NoMoreTime)
-                        (cond (eqb n no-more-blocks) (Some NoMoreBlocks) None)))))
+    (cond (eqb n out-of-range) (Some OutOfRange)
+    (cond (eqb n agreed-before) (Some AgreedBefore)
+    (cond (eqb n voted-before) (Some VotedBefore)
+    (cond (eqb n no-more-time) (Some NoMoreTime)
+    (cond (eqb n no-more-blocks) (Some NoMoreBlocks) None)))))
 
 abbrev pub said-of : Said → List protocol.Vote
 said-of Nothing = []

@@ -84,7 +84,11 @@ pub enum Answer {
 fn reaches(bytes: &[u8], place: usize) -> Result<(), usize>
     ensures is { λ r. ⌜ r ≡ reaching Err place (now (bytes .entry)) (Ok tt) ⌝ }
 {
-    if bytes.len() <= place { Err(bytes.len()) } else { Ok(()) }
+    if bytes.len() <= place {
+        Err(bytes.len())
+    } else {
+        Ok(())
+    }
 }
 
 // A refusal, whose number the bytes hold.

@@ -73,10 +73,14 @@ pub fn read_event(bytes: &[u8]) -> Result<Event, usize>
 }
 
 // There is room for so many bytes, or how many are needed.
-pub(crate) fn room(out: &[u8], count: usize) -> Result<(), usize>
-    ensures is { λ r. ⌜ Cases r (λ _. count ≤ length (now (out .entry))) (λ n. (n ≡ count) × (length (now (out .entry)) < n)) ⌝ }
+pub(crate) fn room(out: &[u8], needed: usize) -> Result<(), usize>
+    ensures is { λ r. ⌜ Cases r (λ _. needed ≤ length (now (out .entry))) (λ n. (n ≡ needed) × (length (now (out .entry)) < n)) ⌝ }
 {
-    if out.len() < count { Err(count) } else { Ok(()) }
+    if out.len() < needed {
+        Err(needed)
+    } else {
+        Ok(())
+    }
 }
 
 // Writes the event's bytes, and gives their number; or gives the number needed, and writes nothing. What is written is

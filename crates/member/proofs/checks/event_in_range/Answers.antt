@@ -12,17 +12,19 @@ use Rattle.member.proofs.checks.event_in_range.Needs as need
 
 pub returns-in-Vote : need.returns-in-Vote
 unfolding in-range
-returns-in-Vote c = record
-    { is = c .vote-in-range .ensures .is
-        ∙ ap (λ (e : code.Event). in-range (limits-of all (c .args .limits)) (event-of e)) (sym (c .in-Vote .is)) }
+returns-in-Vote c = record {
+  is = c .vote-in-range .ensures .is
+      ∙ ap (λ (e : code.Event). in-range (limits-of all (c .args .limits)) (event-of e)) (sym (c .in-Vote .is));
+}
 
 pub returns-in-Block : need.returns-in-Block
 unfolding in-range
 returns-in-Block c =
     let x = c .in-Block .field-0 in
-    record
-        { is = sym (lt-ltb (value-of x) value-bound (value-below (x .limbs) (x .four) (x .fit)))
-            ∙ ap (λ (e : code.Event). in-range (limits-of all (c .args .limits)) (event-of e)) (sym (c .in-Block .is)) }
+    record {
+      is = sym (lt-ltb (value-of x) value-bound (value-below (x .limbs) (x .four) (x .fit)))
+          ∙ ap (λ (e : code.Event). in-range (limits-of all (c .args .limits)) (event-of e)) (sym (c .in-Block .is));
+    }
 
 pub returns-in-Timeout : need.returns-in-Timeout
 unfolding in-range

@@ -31,25 +31,29 @@ returns-in-Soft c =
     let x = c .args .vote .value in
     let of = sym (c .of .ensures .is) ∙ c .in-Some .is in
     let first : v .kind < next =
-        elim (c .in-Soft .is)
-            [ inl e ↦ omega (arith, is-soft (v .kind) (of ∙ ap Some e)) | inr e ↦ omega (arith, is-cert (v .kind) (of ∙ ap Some e)) ] in
-    record { is = first-range (limits-of all (c .args .limits)) v (c .if-vote-lt1 .left) (c .if-vote-limits .left) (c .if-vote-limits-2 .left)
-        (value-below (x .limbs) (x .four) (x .fit)) first }
+    elim (c .in-Soft .is)
+    [ inl e ↦ omega (arith, is-soft (v .kind) (of ∙ ap Some e)) | inr e ↦ omega (arith, is-cert (v .kind) (of ∙ ap Some e)) ] in
+    record {
+      is = first-range (limits-of all (c .args .limits)) v (c .if-vote-lt1 .left) (c .if-vote-limits .left) (c .if-vote-limits-2 .left)
+          (value-below (x .limbs) (x .four) (x .fit)) first;
+    }
 
 pub returns-in-Next : need.returns-in-Next
 returns-in-Next c =
     let v : Vote = vote-of (c .args .vote) in
     let x = c .args .vote .value in
     let kind : v .kind ≡ next = is-next (v .kind) (sym (c .of .ensures .is) ∙ c .in-Some .is ∙ ap Some (c .in-Next .is)) in
-    record { is = later-range (limits-of all (c .args .limits)) v (c .if-vote-lt1 .left) (c .if-vote-limits .left) (c .if-vote-limits-2 .left)
-        (value-below (x .limbs) (x .four) (x .fit)) (c .is-later-step .result) (c .is-later-step .ensures .is)
-        (omega (arith, kind)) (omega (arith, kind)) (λ h. absurd (omega (arith, kind, h))) }
+    record {
+      is = later-range (limits-of all (c .args .limits)) v (c .if-vote-lt1 .left) (c .if-vote-limits .left) (c .if-vote-limits-2 .left)
+          (value-below (x .limbs) (x .four) (x .fit)) (c .is-later-step .result) (c .is-later-step .ensures .is)
+          (omega (arith, kind)) (omega (arith, kind)) (λ h. absurd (omega (arith, kind, h)));
+    }
 
 pub returns-then-not-is-zero : need.returns-then-not-is-zero
 returns-then-not-is-zero c =
     let v : Vote = vote-of (c .args .vote) in
     let kind : v .kind ≡ next-none =
-        is-next-none (v .kind) (sym (c .of .ensures .is) ∙ c .in-Some .is ∙ ap Some (c .in-NextNone .is)) in
+    is-next-none (v .kind) (sym (c .of .ensures .is) ∙ c .in-Some .is ∙ ap Some (c .in-NextNone .is)) in
     record { is = not-in-range _ v (λ r. eqb-false (v .value) 0 (sym (c .is-zero .ensures .is) ∙ c .if-not-is-zero .taken) (r .no-value kind)) }
 
 pub returns-else-not-is-zero : need.returns-else-not-is-zero
@@ -57,7 +61,9 @@ returns-else-not-is-zero c =
     let v : Vote = vote-of (c .args .vote) in
     let x = c .args .vote .value in
     let kind : v .kind ≡ next-none =
-        is-next-none (v .kind) (sym (c .of .ensures .is) ∙ c .in-Some .is ∙ ap Some (c .in-NextNone .is)) in
-    record { is = later-range (limits-of all (c .args .limits)) v (c .if-vote-lt1 .left) (c .if-vote-limits .left) (c .if-vote-limits-2 .left)
-        (value-below (x .limbs) (x .four) (x .fit)) (c .is-later-step-in-NextNone .result) (c .is-later-step-in-NextNone .ensures .is)
-        (omega (arith, kind)) (omega (arith, kind)) (λ h. eqb-true (v .value) 0 (sym (c .is-zero .ensures .is) ∙ c .if-not-is-zero .left)) }
+    is-next-none (v .kind) (sym (c .of .ensures .is) ∙ c .in-Some .is ∙ ap Some (c .in-NextNone .is)) in
+    record {
+      is = later-range (limits-of all (c .args .limits)) v (c .if-vote-lt1 .left) (c .if-vote-limits .left) (c .if-vote-limits-2 .left)
+          (value-below (x .limbs) (x .four) (x .fit)) (c .is-later-step-in-NextNone .result) (c .is-later-step-in-NextNone .ensures .is)
+          (omega (arith, kind)) (omega (arith, kind)) (λ h. eqb-true (v .value) 0 (sym (c .is-zero .ensures .is) ∙ c .if-not-is-zero .left));
+    }

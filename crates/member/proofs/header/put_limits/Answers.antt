@@ -13,12 +13,14 @@ returns c =
     let mem : List ℕ = c .args .memory .now in
     let l : Limits = c .args .limits in
     let long : 5 ≤ length mem = omega arith in
-    record
-        { is = record
-            { marked = five-0 mem 0 long mark (l .members) (l .periods) (l .steps) (l .blocks)
-            ; members = five-1 mem 0 long mark (l .members) (l .periods) (l .steps) (l .blocks)
-            ; periods = five-2 mem 0 long mark (l .members) (l .periods) (l .steps) (l .blocks)
-            ; steps = five-3 mem 0 long mark (l .members) (l .periods) (l .steps) (l .blocks)
-            ; blocks = five-4 mem 0 long mark (l .members) (l .periods) (l .steps) (l .blocks)
-            ; long = simp length-set (c .pre .long) }
-        ; only = five-else mem 0 long mark (l .members) (l .periods) (l .steps) (l .blocks) }
+    record {
+      is = record {
+        marked = five-0 mem 0 long mark (l .members) (l .periods) (l .steps) (l .blocks);
+        members = five-1 mem 0 long mark (l .members) (l .periods) (l .steps) (l .blocks);
+        periods = five-2 mem 0 long mark (l .members) (l .periods) (l .steps) (l .blocks);
+        steps = five-3 mem 0 long mark (l .members) (l .periods) (l .steps) (l .blocks);
+        blocks = five-4 mem 0 long mark (l .members) (l .periods) (l .steps) (l .blocks);
+        long = simp length-set (c .pre .long);
+      };
+      only = five-else mem 0 long mark (l .members) (l .periods) (l .steps) (l .blocks);
+    }

@@ -14,11 +14,13 @@ returns c =
     let f : ℕ = c .from-free .result in
     let g : ℕ = c .from-certain .result in
     let long : 11 ≤ length mem = omega arith in
-    record
-        { is = record
-            { period = five-0 mem 6 long (x .period) (x .step) f g (x .blocks)
-            ; step = five-1 mem 6 long (x .period) (x .step) f g (x .blocks)
-            ; free = flag-put _ f (x .free) (five-2 mem 6 long (x .period) (x .step) f g (x .blocks)) (c .from-free .ensures)
-            ; certain = flag-put _ g (x .certain) (five-3 mem 6 long (x .period) (x .step) f g (x .blocks)) (c .from-certain .ensures)
-            ; blocks = five-4 mem 6 long (x .period) (x .step) f g (x .blocks) }
-        ; only = five-else mem 6 long (x .period) (x .step) f g (x .blocks) }
+    record {
+      is = record {
+        period = five-0 mem 6 long (x .period) (x .step) f g (x .blocks);
+        step = five-1 mem 6 long (x .period) (x .step) f g (x .blocks);
+        free = flag-put _ f (x .free) (five-2 mem 6 long (x .period) (x .step) f g (x .blocks)) (c .from-free .ensures);
+        certain = flag-put _ g (x .certain) (five-3 mem 6 long (x .period) (x .step) f g (x .blocks)) (c .from-certain .ensures);
+        blocks = five-4 mem 6 long (x .period) (x .step) f g (x .blocks);
+      };
+      only = five-else mem 6 long (x .period) (x .step) f g (x .blocks);
+    }

@@ -7,6 +7,7 @@ use Rattle.member.proofs.Fresh.{blanked}
 use Rattle.member.proofs.opening.blank.Needs as need
 
 pub returns : need.returns
-returns c = record
-    { is = blanked (limits-of all (c .args .limits)) (c .args .memory .now) (c .clear .last .part) (c .memory-size .result - 0)
-        (omega (arith, c .memory-size .ensures .is)) (omega arith) (c .clear .ensures .is) }
+returns c = record {
+  is = blanked (limits-of all (c .args .limits)) (c .args .memory .now) (c .clear .last .part) (c .memory-size .result - 0)
+      (omega (arith, c .memory-size .ensures .is)) (omega arith) (c .clear .ensures .is);
+}

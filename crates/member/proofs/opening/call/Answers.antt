@@ -13,12 +13,16 @@ pub returns-in-Ok : need.returns-in-Ok
 returns-in-Ok c =
     let mem : List ℕ = c .args .memory .now in
     let new : List ℕ = c .answer .last .memory in
-    record { is = subst (λ (e : Event). Called mem e new (answer-of (c .answer .result))) (c .in-Ok .ensures tt .is)
-        (called mem new (c .in-Some .member) (event-of (c .in-Ok .event)) (c .answer .result) (c .in-Some .ensures tt .is)
-            (c .answer .ensures .is) (omega arith) (words-by-places new (λ i. c .typed .memory i .fits))) }
+    record {
+      is = subst (λ (e : Event). Called mem e new (answer-of (c .answer .result))) (c .in-Ok .ensures tt .is)
+          (called mem new (c .in-Some .member) (event-of (c .in-Ok .event)) (c .answer .result) (c .in-Some .ensures tt .is)
+          (c .answer .ensures .is) (omega arith) (words-by-places new (λ i. c .typed .memory i .fits)));
+    }
 
 pub returns-in-Err : need.returns-in-Err
 returns-in-Err c =
     let mem : List ℕ = c .args .memory .now in
-    record { is = subst (λ (e : Event). Called mem e mem (refused 1 (c .in-Err .place))) (c .in-Err .ensures tt .is)
-        (called-unreadable mem (c .in-Err .place)) }
+    record {
+      is = subst (λ (e : Event). Called mem e mem (refused 1 (c .in-Err .place))) (c .in-Err .ensures tt .is)
+          (called-unreadable mem (c .in-Err .place));
+    }

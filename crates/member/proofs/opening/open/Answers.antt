@@ -12,9 +12,12 @@ use Rattle.member.proofs.opening.open.Needs as need
 pub returns : need.returns
 returns c =
     let made = c .in-Ok .ensures tt .is in
-    record
-        { is = (made .0,
-            opening (c .args .members) (c .args .periods) (c .args .steps) (c .args .blocks) (c .args .me) (c .in-Ok .limits)
-                (c .args .memory .now) (c .write-new .last .memory) (made .1) (omega (arith, c .if-me-limits .left, made .1 .0))
-                (c .write-new .ensures .is) (c .write-new .ensures .rest) (omega arith)
-                (words-by-places (c .write-new .last .memory) (λ i. c .typed .memory i .fits))) }
+    record {
+      is = (
+        made .0,
+        opening (c .args .members) (c .args .periods) (c .args .steps) (c .args .blocks) (c .args .me) (c .in-Ok .limits)
+            (c .args .memory .now) (c .write-new .last .memory) (made .1) (omega (arith, c .if-me-limits .left, made .1 .0))
+            (c .write-new .ensures .is) (c .write-new .ensures .rest) (omega arith)
+            (words-by-places (c .write-new .last .memory) (λ i. c .typed .memory i .fits)),
+      );
+    }

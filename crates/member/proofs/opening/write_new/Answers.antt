@@ -16,13 +16,24 @@ returns c =
     let mem : List ℕ = c .args .memory .now in
     let mid : List ℕ = c .blank .last .memory in
     let new : List ℕ = c .mark .last .memory in
-    record
-        { is = record
-            { member = _; limits = refl; me = refl
-            ; header = c .mark .ensures .is
-            ; stands = record
-                { me = refl; period = refl; step = refl; start = refl; free = refl; certain = refl; agreed = refl
-                ; votes = no-votes l mem mid new (c .blank .ensures .is) (c .mark .ensures .only)
-                ; proposals = no-proposals l mem mid new (c .blank .ensures .is) (c .mark .ensures .only)
-                ; blocks = no-blocks l mem mid new (c .blank .ensures .is) (c .mark .ensures .only) } }
-        ; rest = only-header l mid new (c .mark .ensures .only) (omega arith) of-rest refl ∙ c .blank .ensures .is .rest }
+    record {
+      is = record {
+        member = _;
+        limits = refl;
+        me = refl;
+        header = c .mark .ensures .is;
+        stands = record {
+          me = refl;
+          period = refl;
+          step = refl;
+          start = refl;
+          free = refl;
+          certain = refl;
+          agreed = refl;
+          votes = no-votes l mem mid new (c .blank .ensures .is) (c .mark .ensures .only);
+          proposals = no-proposals l mem mid new (c .blank .ensures .is) (c .mark .ensures .only);
+          blocks = no-blocks l mem mid new (c .blank .ensures .is) (c .mark .ensures .only);
+        };
+      };
+      rest = only-header l mid new (c .mark .ensures .only) (omega arith) of-rest refl ∙ c .blank .ensures .is .rest;
+    }

@@ -23,9 +23,10 @@ returns c =
     let forward : 64 ≤ e = omega arith in
     let within : e ≤ length mem = omega arith in
     let sized : length ys ≡ e - 64 = omega arith in
-    record
-        { is = λ vs h free.
-            subst (λ (xs : List ℕ). Holds l xs (vote-of (c .args .vote) ∷ vs))
-                (sym (put-here mem ys 64 e forward within sized 64 (votes-end l) refl end))
-                (c .hear .ensures .is vs (subst (λ (n : ℕ). Holds l (between 64 n mem) vs) (sym end) h) free)
-        ; only = put-votes mem ys 64 e forward within sized l refl end }
+    record {
+      is = λ vs h free.
+          subst (λ (xs : List ℕ). Holds l xs (vote-of (c .args .vote) ∷ vs))
+          (sym (put-here mem ys 64 e forward within sized 64 (votes-end l) refl end))
+          (c .hear .ensures .is vs (subst (λ (n : ℕ). Holds l (between 64 n mem) vs) (sym end) h) free);
+      only = put-votes mem ys 64 e forward within sized l refl end;
+    }

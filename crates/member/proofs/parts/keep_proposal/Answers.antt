@@ -26,9 +26,10 @@ returns c =
     let forward : s ≤ e = omega arith in
     let within : e ≤ length mem = omega arith in
     let sized : length ys ≡ e - s = omega arith in
-    record
-        { is = λ os h.
-            subst (λ (xs : List ℕ). Proposes l xs (keep-best (proposal-of (c .args .proposal)) os))
-                (sym (put-here mem ys s e forward within sized (votes-end l) (proposals-end l) start end))
-                (c .keep .ensures .is os (subst₂ (λ (n m : ℕ). Proposes l (between n m mem) os) (sym start) (sym end) h))
-        ; only = put-proposals mem ys s e forward within sized l start end }
+    record {
+      is = λ os h.
+          subst (λ (xs : List ℕ). Proposes l xs (keep-best (proposal-of (c .args .proposal)) os))
+          (sym (put-here mem ys s e forward within sized (votes-end l) (proposals-end l) start end))
+          (c .keep .ensures .is os (subst₂ (λ (n m : ℕ). Proposes l (between n m mem) os) (sym start) (sym end) h));
+      only = put-proposals mem ys s e forward within sized l start end;
+    }

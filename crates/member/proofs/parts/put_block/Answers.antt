@@ -31,12 +31,13 @@ returns c =
     let n : ℕ = c .args .count in
     let x : ℕ = value-of (c .args .value) in
     let before : blocks-in (between s e mem) n ≡ blocks-in (part of-blocks l mem) n =
-        ap₂ (λ (i j : ℕ). blocks-in (between i j mem) n) start end in
+    ap₂ (λ (i j : ℕ). blocks-in (between i j mem) n) start end in
     let added : blocks-in ys (c .add-block .result) ≡ add-block x (blocks-in (part of-blocks l mem) n) =
-        c .add-block .ensures .is ∙ ap (add-block x) before in
-    record
-        { is = ap (λ (xs : List ℕ). blocks-in xs (c .add-block .result))
-                (put-here mem ys s e forward within sized (proposals-end l) (blocks-end l) start end)
-            ∙ added
-        ; few = few-blocks x ys (part of-blocks l mem) n (c .add-block .result) (c .args .limits .blocks) added (c .pre .blocks) (c .pre .room)
-        ; only = put-blocks mem ys s e forward within sized l start end }
+    c .add-block .ensures .is ∙ ap (add-block x) before in
+    record {
+      is = ap (λ (xs : List ℕ). blocks-in xs (c .add-block .result))
+          (put-here mem ys s e forward within sized (proposals-end l) (blocks-end l) start end)
+          ∙ added;
+      few = few-blocks x ys (part of-blocks l mem) n (c .add-block .result) (c .args .limits .blocks) added (c .pre .blocks) (c .pre .room);
+      only = put-blocks mem ys s e forward within sized l start end;
+    }

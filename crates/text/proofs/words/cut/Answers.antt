@@ -22,7 +22,7 @@ pub loop-i-again : need.loop-i-again
 loop-i-again c =
     let P : ℕ → Type 0 = λ k. free-of (c .args .sep) (take k (c .args .text .now)) ≡ true in
     subst P (sym (add-one (c .loop-i .i)))
-        (free-more (c .args .sep) (c .loop-i .i) (c .args .text .now) (c .loop-i .inv) (c .loop-i-test .taken) (c .if-c-sep .left))
+    (free-more (c .args .sep) (c .loop-i .i) (c .args .text .now) (c .loop-i .inv) (c .loop-i-test .taken) (c .if-c-sep .left))
 
 pub returns : need.returns
 returns c =

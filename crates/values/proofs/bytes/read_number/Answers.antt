@@ -12,8 +12,9 @@ pub returns : need.returns
 returns c =
     let bytes = c .args .part .now in
     let is : c .from-le-bytes .result ≡ le-number bytes =
-        cc (c .from-le-bytes .ensures, number-of-eight bytes (c .pre)) in
+    cc (c .from-le-bytes .ensures, number-of-eight bytes (c .pre)) in
     let low : (i : ℕ) → getD bytes i 0 < 256 = λ i. c .typed .part i .fits in
-    record
-      { is = is
-      ; bytes = (λ i. digits 256 (sym (c .pre) i) (is i)) ∙ digits-number 256 bytes (under-by-places 256 bytes low) }
+    record {
+      is = is;
+      bytes = (λ i. digits 256 (sym (c .pre) i) (is i)) ∙ digits-number 256 bytes (under-by-places 256 bytes low);
+    }

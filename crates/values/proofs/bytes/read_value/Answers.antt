@@ -17,5 +17,5 @@ returns c =
     let four = read-more bs 24 _ three 8 _ (c .read-number-d .ensures .bytes) in
     let r = c .of .result in
     let bytes : le-bytes 32 (value-of r) ≡ bs =
-        four-bytes _ _ _ _ _ (c .of .ensures .is) (r .fit) ∙ sym four ∙ take-all 32 bs (omega arith) in
+    four-bytes _ _ _ _ _ (c .of .ensures .is) (r .fit) ∙ sym four ∙ take-all 32 bs (omega arith) in
     record { is = value-from-bytes _ bs (r .four) (r .fit) bytes; bytes = bytes }

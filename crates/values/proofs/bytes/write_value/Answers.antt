@@ -14,5 +14,5 @@ returns c =
     let three = front-more was 16 _ _ two 8 _ _ (length-digits 256 8 _) (c .write-number-3 .ensures .is) in
     let four = front-more was 24 _ _ three 8 _ _ (length-digits 256 8 _) (c .write-number-4 .ensures .is) in
     let places =
-        sym (c .limbs .ensures .is) ∙ four-by-places (c .limbs .result) (rw (c .limbs .ensures .is) (v .four)) in
+    sym (c .limbs .ensures .is) ∙ four-by-places (c .limbs .result) (rw (c .limbs .ensures .is) (v .four)) in
     record { is = front-all was 32 _ _ four (omega arith) ∙ sym (four-bytes (v .limbs) _ _ _ _ places (v .fit)) }

@@ -32,7 +32,7 @@ returns-in-Continue-reaches-3 c =
     let bs = c .args .bytes .now in
     let vs : List Vote = vote-of (c .read-vote-first .result) ∷ vote-of (c .read-vote-second .result) ∷ [] in
     let votes : vs ≡ votes-in 9 2 bs =
-        λ i. c .read-vote-first .ensures .is i ∷ c .read-vote-second .ensures .is i ∷ [] in
+    λ i. c .read-vote-first .ensures .is i ∷ c .read-vote-second .ensures .is i ∷ [] in
     let count = sym (c .in-2 .is) ∙ c .read-number .ensures .is in
     let long = c .in-Continue-reaches-3 .ensures tt .is in
     record { is = says-at bs 2 vs _ _ refl count long votes (c .read-agreed-in-2 .ensures .is) }

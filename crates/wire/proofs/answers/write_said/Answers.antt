@@ -18,7 +18,7 @@ returns-in-One c =
     let long = c .pre ∙ ap (λ s. 8 + 64 * length (said-of s)) (c .in-One .is) in
     let bytes = ap (λ s. said-bytes (said-of s)) (c .in-One .is) ∙ one-said _ in
     let count =
-        front-more was 0 _ _ (front-none was) 8 _ _ (length-digits 256 8 1) (c .write-number-in-One .ensures .is) in
+    front-more was 0 _ _ (front-none was) 8 _ _ (length-digits 256 8 1) (c .write-number-in-One .ensures .is) in
     let vote = front-more was 8 _ _ count 64 _ _ (length-vote _) (c .write-vote .ensures .is) in
     record {
       is = front-all was 72 _ _ vote (omega arith) ∙ sym bytes;
@@ -31,14 +31,14 @@ returns-in-Two c =
     let long = c .pre ∙ ap (λ s. 8 + 64 * length (said-of s)) (c .in-Two .is) in
     let bytes = ap (λ s. said-bytes (said-of s)) (c .in-Two .is) ∙ two-said _ _ in
     let count =
-        front-more was 0 _ _ (front-none was) 8 _ _ (length-digits 256 8 2) (c .write-number-in-Two .ensures .is) in
+    front-more was 0 _ _ (front-none was) 8 _ _ (length-digits 256 8 2) (c .write-number-in-Two .ensures .is) in
     let first = front-more was 8 _ _ count 64 _ _ (length-vote _) (c .write-vote-in-Two .ensures .is) in
     let second = front-more was 72 _ _ first 64 _ _ (length-vote _) (c .write-vote-in-Two-2 .ensures .is) in
     record {
       is = front-all was 136 _ _ second (omega arith) ∙ sym bytes;
       fits =
-        two-fit (c .args .said) _ _ (ap said-of (c .in-Two .is))
-            (c .write-vote-in-Two .ensures .fits) (c .write-vote-in-Two-2 .ensures .fits);
+          two-fit (c .args .said) _ _ (ap said-of (c .in-Two .is))
+          (c .write-vote-in-Two .ensures .fits) (c .write-vote-in-Two-2 .ensures .fits);
     }
 
 pub returns-in-Nothing : need.returns-in-Nothing

@@ -37,7 +37,7 @@ returns c =
     let room = c .in-Continue-room .ensures tt .is in
     let first = front-byte was 1 (omega (arith, room)) in
     let votes =
-        front-to was 1 _ _ first (at - 1) at _ _ (omega (arith, said)) (omega arith) (c .write-said .ensures .is) in
+    front-to was 1 _ _ first (at - 1) at _ _ (omega (arith, said)) (omega arith) (c .write-said .ensures .is) in
     let all = front-to was at _ _ votes (end - at) end _ _ (omega (arith, agreed)) (omega arith) (c .write-agreed .ensures .is) in
     record {
       is = wrote _ _ was _ end refl all room;

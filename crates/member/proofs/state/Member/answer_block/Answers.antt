@@ -32,11 +32,13 @@ returns-in-rest c =
     let x : Member = c .args .self in
     let v : Value = c .args .value in
     let full = c .in-rest .ensures tt .is in
-    record { is = λ m header stands ready.
-        refuse x (c .args .memory .now) m (got-block (value-of v)) 5 _
-            (block-refused (lim x) m (λ k. refl) (ready .open-minded) (value-of v) (value-below (v .limbs) (v .four) (v .fit))
-                (ap (is-in (value-of v)) (sym (stands .blocks)) ∙ full .0)
-                (omega (arith, counted x (c .args .memory .now) m stands, full .1))) refl header stands }
+    record {
+      is = λ m header stands ready.
+          refuse x (c .args .memory .now) m (got-block (value-of v)) 5 _
+          (block-refused (lim x) m (λ k. refl) (ready .open-minded) (value-of v) (value-below (v .limbs) (v .four) (v .fit))
+          (ap (is-in (value-of v)) (sym (stands .blocks)) ∙ full .0)
+          (omega (arith, counted x (c .args .memory .now) m stands, full .1))) refl header stands;
+    }
 
 pub returns : need.returns
 returns c =
@@ -45,11 +47,13 @@ returns c =
     let v : Value = c .args .value in
     let mid : List ℕ = c .on-block-said .last .memory in
     let room = c .in-Some .ensures tt .is in
-    record { is = λ m header stands ready.
-        done x y (c .args .memory .now) mid (c .says .last .memory) m (got-block (value-of v)) (c .says .result) _
-            (block-taken (lim x) m (λ k. refl) (ready .open-minded) (value-of v) (value-below (v .limbs) (v .four) (v .fit))
-                (λ h. omega (arith, counted x (c .args .memory .now) m stands, room .1 (ap (is-in (value-of v)) (stands .blocks) ∙ h))))
-            (c .on-block-said .ensures .same) header (c .on-block-said .ensures .only) (omega arith)
-            (subst (λ (w : Value). Did y mid (said-of (c .on-block-said .result .1)) (does (lim x) m (got-block (value-of w)))) (room .0)
-                (c .on-block-said .ensures .is m stands ready))
-            (c .says .ensures .is) (c .says .ensures .carries) (c .says .ensures .only) }
+    record {
+      is = λ m header stands ready.
+          done x y (c .args .memory .now) mid (c .says .last .memory) m (got-block (value-of v)) (c .says .result) _
+          (block-taken (lim x) m (λ k. refl) (ready .open-minded) (value-of v) (value-below (v .limbs) (v .four) (v .fit))
+          (λ h. omega (arith, counted x (c .args .memory .now) m stands, room .1 (ap (is-in (value-of v)) (stands .blocks) ∙ h))))
+          (c .on-block-said .ensures .same) header (c .on-block-said .ensures .only) (omega arith)
+          (subst (λ (w : Value). Did y mid (said-of (c .on-block-said .result .1)) (does (lim x) m (got-block (value-of w)))) (room .0)
+          (c .on-block-said .ensures .is m stands ready))
+          (c .says .ensures .is) (c .says .ensures .carries) (c .says .ensures .only);
+    }

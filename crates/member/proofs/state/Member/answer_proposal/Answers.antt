@@ -22,9 +22,11 @@ pub returns : need.returns
 returns c =
     let x : Member = c .args .self in
     let y : Member = c .on-proposal-said .result .0 in
-    record { is = λ m header stands ready.
-        done x y (c .args .memory .now) (c .on-proposal-said .last .memory) (c .says .last .memory) m (got-proposal (proposal-of (c .args .proposal)))
-            (c .says .result) _
-            (proposal-taken (lim x) m (λ k. refl) (ready .open-minded) (proposal-of (c .args .proposal)) (c .pre .proposal))
-            (c .on-proposal-said .ensures .same) header (c .on-proposal-said .ensures .only) (omega arith)
-            (c .on-proposal-said .ensures .is m stands ready) (c .says .ensures .is) (c .says .ensures .carries) (c .says .ensures .only) }
+    record {
+      is = λ m header stands ready.
+          done x y (c .args .memory .now) (c .on-proposal-said .last .memory) (c .says .last .memory) m (got-proposal (proposal-of (c .args .proposal)))
+          (c .says .result) _
+          (proposal-taken (lim x) m (λ k. refl) (ready .open-minded) (proposal-of (c .args .proposal)) (c .pre .proposal))
+          (c .on-proposal-said .ensures .same) header (c .on-proposal-said .ensures .only) (omega arith)
+          (c .on-proposal-said .ensures .is m stands ready) (c .says .ensures .is) (c .says .ensures .carries) (c .says .ensures .only);
+    }

@@ -24,15 +24,16 @@ returns c =
     let mid : List ℕ = c .first-step-soft .last .memory in
     let new : List ℕ = c .certainly-cert .last .memory in
     let only : Only-in of-votes (lim x) mem new =
-        only-twice of-votes (lim x) mem mid new (c .first-step-soft .ensures .only)
-            (same-only x y₁ s₁ of-votes mid new (c .certainly-cert .ensures .only)) in
-    record
-        { is = λ m h ready.
-            let step : m .step ≡ 0 = sym (h .step) ∙ c .pre .first in
-            let done : Did y₃ new _ _ =
-                first-done x y₁ y₂ y₃ (same-lim x y₁ s₁) (same-lim x y₂ s₂) mid new (c .first-step-soft .result .1) (c .certainly-cert .result .1)
-                    (c .certainly-cert .ensures .is) (c .agree-by-own-own .ensures .is) m ready step
-                    (c .first-step-soft .ensures .is m h (λ v. ready .fresh .soft-slot v step)) in
-            record { stands = done .stands; out = c .said .ensures .is ∙ done .out }
-        ; only = record { header = only of-header refl; rest = only of-rest refl }
-        ; same = same-twice x y₂ y₃ s₂ (c .agree-by-own-own .ensures .same) }
+    only-twice of-votes (lim x) mem mid new (c .first-step-soft .ensures .only)
+    (same-only x y₁ s₁ of-votes mid new (c .certainly-cert .ensures .only)) in
+    record {
+      is = λ m h ready.
+          let step : m .step ≡ 0 = sym (h .step) ∙ c .pre .first in
+          let done : Did y₃ new _ _ =
+          first-done x y₁ y₂ y₃ (same-lim x y₁ s₁) (same-lim x y₂ s₂) mid new (c .first-step-soft .result .1) (c .certainly-cert .result .1)
+          (c .certainly-cert .ensures .is) (c .agree-by-own-own .ensures .is) m ready step
+          (c .first-step-soft .ensures .is m h (λ v. ready .fresh .soft-slot v step)) in
+          record { stands = done .stands; out = c .said .ensures .is ∙ done .out };
+      only = record { header = only of-header refl; rest = only of-rest refl };
+      same = same-twice x y₂ y₃ s₂ (c .agree-by-own-own .ensures .same);
+    }

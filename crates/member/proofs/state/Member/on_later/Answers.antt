@@ -22,10 +22,11 @@ returns c =
     let s₁ : Same x y₁ = c .later-step .ensures .same in
     let new : List ℕ = c .later-step .last .memory in
     let only = c .later-step .ensures .only in
-    record
-        { is = λ m h ready.
-            later-done x y₁ y₂ (same-lim x y₁ s₁) new (c .later-step .result .1) (c .onward-member .ensures .is) m (m .step - 1) ready
-                (omega (arith, h .step, c .pre .some-step))
-                (c .later-step .ensures .is m h (next-slot (lim x) m (chosen (lim x) m) ready))
-        ; only = record { header = only of-header refl; rest = only of-rest refl }
-        ; same = same-twice x y₁ y₂ s₁ (c .onward-member .ensures .same) }
+    record {
+      is = λ m h ready.
+          later-done x y₁ y₂ (same-lim x y₁ s₁) new (c .later-step .result .1) (c .onward-member .ensures .is) m (m .step - 1) ready
+          (omega (arith, h .step, c .pre .some-step))
+          (c .later-step .ensures .is m h (next-slot (lim x) m (chosen (lim x) m) ready));
+      only = record { header = only of-header refl; rest = only of-rest refl };
+      same = same-twice x y₁ y₂ s₁ (c .onward-member .ensures .same);
+    }

@@ -20,10 +20,12 @@ returns c =
     let mem : List ℕ = c .args .memory .now in
     let new : List ℕ = c .keep-proposal .last .memory in
     let only = c .keep-proposal .ensures .only in
-    record
-        { is = λ m h ready. record
-            { stands = kept-best x mem new m h (keep-best (proposal-of (c .args .proposal)) (m .proposals))
-                (c .keep-proposal .ensures .is (m .proposals) (h .proposals)) only
-            ; out = refl }
-        ; only = record { header = only of-header refl; rest = only of-rest refl }
-        ; same = record { limits = refl; me = refl } }
+    record {
+      is = λ m h ready. record {
+        stands = kept-best x mem new m h (keep-best (proposal-of (c .args .proposal)) (m .proposals))
+            (c .keep-proposal .ensures .is (m .proposals) (h .proposals)) only;
+        out = refl;
+      };
+      only = record { header = only of-header refl; rest = only of-rest refl };
+      same = record { limits = refl; me = refl };
+    }

@@ -26,28 +26,31 @@ pub returns-then-vote-self : need.returns-then-vote-self
 returns-then-vote-self c =
     let x = c .args .self in
     let v : Vote = vote-of (c .args .vote) in
-    record
-        { is = λ m h. subst (λ (y : Of-member). Stands x (c .args .memory .now) y)
-            (sym (on-to-late (lim x) v (listed (c .args .start)) (c .args .free) m (omega (arith, c .if-vote-self .taken, h .period)))) h
-        ; same = record { limits = refl; me = refl } }
+    record {
+      is = λ m h. subst (λ (y : Of-member). Stands x (c .args .memory .now) y)
+          (sym (on-to-late (lim x) v (listed (c .args .start)) (c .args .free) m (omega (arith, c .if-vote-self .taken, h .period)))) h;
+      same = record { limits = refl; me = refl };
+    }
 
 pub returns-then-not-is-quorum : need.returns-then-not-is-quorum
 returns-then-not-is-quorum c =
     let x = c .args .self in
     let v : Vote = vote-of (c .args .vote) in
-    record
-        { is = λ m h. subst (λ (y : Of-member). Stands x (c .args .memory .now) y)
-            (sym (on-to-few (lim x) v (listed (c .args .start)) (c .args .free) m
-                (sym (c .is-quorum .ensures .is (m .votes) (h .votes)) ∙ c .if-not-is-quorum .taken))) h
-        ; same = record { limits = refl; me = refl } }
+    record {
+      is = λ m h. subst (λ (y : Of-member). Stands x (c .args .memory .now) y)
+          (sym (on-to-few (lim x) v (listed (c .args .start)) (c .args .free) m
+          (sym (c .is-quorum .ensures .is (m .votes) (h .votes)) ∙ c .if-not-is-quorum .taken))) h;
+      same = record { limits = refl; me = refl };
+    }
 
 pub returns : need.returns
 returns c =
     let x = c .args .self in
     let v : Vote = vote-of (c .args .vote) in
-    record
-        { is = λ m h. subst (λ (y : Of-member). Stands (c .in-period .result) (c .args .memory .now) y)
-            (sym (on-to-goes (lim x) v (listed (c .args .start)) (c .args .free) m (omega (arith, c .if-vote-self .left, h .period))
-                (sym (c .is-quorum .ensures .is (m .votes) (h .votes)) ∙ c .if-not-is-quorum .left)))
-            (c .in-period .ensures .is (c .args .memory .now) m h)
-        ; same = c .in-period .ensures .same }
+    record {
+      is = λ m h. subst (λ (y : Of-member). Stands (c .in-period .result) (c .args .memory .now) y)
+          (sym (on-to-goes (lim x) v (listed (c .args .start)) (c .args .free) m (omega (arith, c .if-vote-self .left, h .period))
+          (sym (c .is-quorum .ensures .is (m .votes) (h .votes)) ∙ c .if-not-is-quorum .left)))
+          (c .in-period .ensures .is (c .args .memory .now) m h);
+      same = c .in-period .ensures .same;
+    }

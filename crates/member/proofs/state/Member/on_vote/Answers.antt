@@ -29,15 +29,16 @@ returns c =
     let new : List ℕ = c .certainly-cert .last .memory in
     let v : Vote = vote-of (c .args .vote) in
     let only : Only-in of-votes (lim x) mem new =
-        only-twice of-votes (lim x) mem mid new (c .hear-vote .ensures .only)
-            (same-only x y₁ s₁ of-votes mid new (c .certainly-cert .ensures .only)) in
-    record
-        { is = λ m h ready free other.
-            let done : Did y₄ new _ _ =
-                vote-done x y₁ y₂ y₃ y₄ (same-lim x y₁ s₁) (same-lim x y₂ s₂) (same-lim x y₃ s₃) mid new (c .certainly-cert .result .1) v
-                    (c .onward-after .ensures .is) (c .certainly-cert .ensures .is) (c .agree-by-own-own .ensures .is)
-                    (c .agree-by-agreed .ensures .is) m ready other
-                    (heard x mem mid m h v (c .hear-vote .ensures .is (m .votes) (h .votes) free) (c .hear-vote .ensures .only)) in
-            record { stands = done .stands; out = c .said .ensures .is ∙ done .out }
-        ; only = record { header = only of-header refl; rest = only of-rest refl }
-        ; same = same-twice x y₃ y₄ s₃ (c .agree-by-agreed .ensures .same) }
+    only-twice of-votes (lim x) mem mid new (c .hear-vote .ensures .only)
+    (same-only x y₁ s₁ of-votes mid new (c .certainly-cert .ensures .only)) in
+    record {
+      is = λ m h ready free other.
+          let done : Did y₄ new _ _ =
+          vote-done x y₁ y₂ y₃ y₄ (same-lim x y₁ s₁) (same-lim x y₂ s₂) (same-lim x y₃ s₃) mid new (c .certainly-cert .result .1) v
+          (c .onward-after .ensures .is) (c .certainly-cert .ensures .is) (c .agree-by-own-own .ensures .is)
+          (c .agree-by-agreed .ensures .is) m ready other
+          (heard x mem mid m h v (c .hear-vote .ensures .is (m .votes) (h .votes) free) (c .hear-vote .ensures .only)) in
+          record { stands = done .stands; out = c .said .ensures .is ∙ done .out };
+      only = record { header = only of-header refl; rest = only of-rest refl };
+      same = same-twice x y₃ y₄ s₃ (c .agree-by-agreed .ensures .same);
+    }

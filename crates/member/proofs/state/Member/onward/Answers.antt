@@ -23,29 +23,33 @@ returns-in-Soft c =
     let x : Member = c .args .self in
     let v : Vote = vote-of (c .args .vote) in
     let first : leb next (v .kind) ≡ false =
-        elim (c .in-Soft .is)
-            [ inl e ↦ soft-first (v .kind) (sym (c .of .ensures .is) ∙ c .in-Some .is ∙ ap Some e)
-            | inr e ↦ cert-first (v .kind) (sym (c .of .ensures .is) ∙ c .in-Some .is ∙ ap Some e) ] in
-    record
-        { is = λ m h. subst (λ (y : Of-member). Stands x (c .args .memory .now) y) (sym (onward-stays (lim x) v m first)) h
-        ; same = record { limits = refl; me = refl } }
+    elim (c .in-Soft .is) [
+      | inl e ↦ soft-first (v .kind) (sym (c .of .ensures .is) ∙ c .in-Some .is ∙ ap Some e)
+      | inr e ↦ cert-first (v .kind) (sym (c .of .ensures .is) ∙ c .in-Some .is ∙ ap Some e)
+    ] in
+    record {
+      is = λ m h. subst (λ (y : Of-member). Stands x (c .args .memory .now) y) (sym (onward-stays (lim x) v m first)) h;
+      same = record { limits = refl; me = refl };
+    }
 
 pub returns-in-Next : need.returns-in-Next
 returns-in-Next c =
     let x : Member = c .args .self in
     let v : Vote = vote-of (c .args .vote) in
-    record
-        { is = λ m h. subst (λ (y : Of-member). Stands (c .on-to .result) (c .args .memory .now) y)
-            (sym (onward-next (lim x) v m (is-next (v .kind) (sym (c .of .ensures .is) ∙ c .in-Some .is ∙ ap Some (c .in-Next .is)))))
-            (c .on-to .ensures .is m h)
-        ; same = c .on-to .ensures .same }
+    record {
+      is = λ m h. subst (λ (y : Of-member). Stands (c .on-to .result) (c .args .memory .now) y)
+          (sym (onward-next (lim x) v m (is-next (v .kind) (sym (c .of .ensures .is) ∙ c .in-Some .is ∙ ap Some (c .in-Next .is)))))
+          (c .on-to .ensures .is m h);
+      same = c .on-to .ensures .same;
+    }
 
 pub returns-in-NextNone : need.returns-in-NextNone
 returns-in-NextNone c =
     let x : Member = c .args .self in
     let v : Vote = vote-of (c .args .vote) in
-    record
-        { is = λ m h. subst (λ (y : Of-member). Stands (c .on-to-in-NextNone .result) (c .args .memory .now) y)
-            (sym (onward-none (lim x) v m (is-next-none (v .kind) (sym (c .of .ensures .is) ∙ c .in-Some .is ∙ ap Some (c .in-NextNone .is)))))
-            (c .on-to-in-NextNone .ensures .is m h)
-        ; same = c .on-to-in-NextNone .ensures .same }
+    record {
+      is = λ m h. subst (λ (y : Of-member). Stands (c .on-to-in-NextNone .result) (c .args .memory .now) y)
+          (sym (onward-none (lim x) v m (is-next-none (v .kind) (sym (c .of .ensures .is) ∙ c .in-Some .is ∙ ap Some (c .in-NextNone .is)))))
+          (c .on-to-in-NextNone .ensures .is m h);
+      same = c .on-to-in-NextNone .ensures .same;
+    }

@@ -16,14 +16,15 @@ returns c =
     let mem : List ℕ = c .args .memory .now in
     let new : List ℕ = c .hear-vote .last .memory in
     let v : Vote = vote-of (c .own-vote .result) in
-    record
-        { is = λ m h free.
-            let mine = c .own-vote .ensures .is mem m h in
-            subst (λ (w : Vote). Stands x new (with-vote w m)) mine
-                (heard x mem new m h v
-                    (c .hear-vote .ensures .is (m .votes) (h .votes)
-                        (subst (λ (w : Vote). slot-taken w (m .votes) ≡ false) (sym mine) free))
-                    (c .hear-vote .ensures .only))
-        ; said = λ m h. c .own-vote .ensures .is mem m h
-        ; only = c .hear-vote .ensures .only
-        ; ranged = subst (λ (w : Vote). vote-in-range (lim x) w ≡ true) (sym (c .own-vote .ensures .fields)) (c .pre .vote) }
+    record {
+      is = λ m h free.
+          let mine = c .own-vote .ensures .is mem m h in
+          subst (λ (w : Vote). Stands x new (with-vote w m)) mine
+          (heard x mem new m h v
+          (c .hear-vote .ensures .is (m .votes) (h .votes)
+          (subst (λ (w : Vote). slot-taken w (m .votes) ≡ false) (sym mine) free))
+          (c .hear-vote .ensures .only));
+      said = λ m h. c .own-vote .ensures .is mem m h;
+      only = c .hear-vote .ensures .only;
+      ranged = subst (λ (w : Vote). vote-in-range (lim x) w ≡ true) (sym (c .own-vote .ensures .fields)) (c .pre .vote);
+    }

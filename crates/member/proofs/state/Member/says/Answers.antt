@@ -19,10 +19,14 @@ returns c =
     let mem : List ℕ = c .args .memory .now in
     let new : List ℕ = c .store .last .memory in
     let only = only-header (lim x) mem new (c .store .ensures .only) (omega arith) in
-    record
-        { is = ap (says (said-of (c .args .said))) (agreed-listed (x .agreed))
-        ; carries = λ z m header same stands. record
-            { member = x; limits = refl; me = refl
-            ; header = c .store .ensures .is (subst (λ (l : Limits). Asks mem l) (sym (same .limits)) (header .asks)) (header .me ∙ sym (same .me))
-            ; stands = headed x mem new m stands only }
-        ; only = only }
+    record {
+      is = ap (says (said-of (c .args .said))) (agreed-listed (x .agreed));
+      carries = λ z m header same stands. record {
+        member = x;
+        limits = refl;
+        me = refl;
+        header = c .store .ensures .is (subst (λ (l : Limits). Asks mem l) (sym (same .limits)) (header .asks)) (header .me ∙ sym (same .me));
+        stands = headed x mem new m stands only;
+      };
+      only = only;
+    }

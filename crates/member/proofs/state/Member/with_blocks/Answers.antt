@@ -15,10 +15,18 @@ use Rattle.member.proofs.state.Member.with_blocks.Needs as need
 pub returns : need.returns
 returns c =
     let l : Limits = lim (c .args .self) in
-    record
-        { is = λ mem new xs m h only here. record
-            { me = h .me; period = h .period; step = h .step; start = h .start; free = h .free; certain = h .certain; agreed = h .agreed
-            ; votes = subst (λ (ys : List ℕ). Holds l ys (m .votes)) (sym (only of-votes refl)) (h .votes)
-            ; proposals = subst (λ (ys : List ℕ). Proposes l ys (m .proposals)) (sym (only of-proposals refl)) (h .proposals)
-            ; blocks = here }
-        ; same = record { limits = refl; me = refl } }
+    record {
+      is = λ mem new xs m h only here. record {
+        me = h .me;
+        period = h .period;
+        step = h .step;
+        start = h .start;
+        free = h .free;
+        certain = h .certain;
+        agreed = h .agreed;
+        votes = subst (λ (ys : List ℕ). Holds l ys (m .votes)) (sym (only of-votes refl)) (h .votes);
+        proposals = subst (λ (ys : List ℕ). Proposes l ys (m .proposals)) (sym (only of-proposals refl)) (h .proposals);
+        blocks = here;
+      };
+      same = record { limits = refl; me = refl };
+    }
