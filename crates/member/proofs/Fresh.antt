@@ -24,13 +24,14 @@ use Rattle.tally.specs.Votes.{Holds}
 use Rattle.tally.specs.Proposals.{Proposes}
 use Rattle.tally.specs.Blocks.{blocks-in}
 use Rattle.tally.proofs.Heard.{holds-none}
+use Rattle.tally.proofs.Index.{parts-size}
 use Rattle.tally.proofs.Best.{proposes-none}
 use Rattle.tally.proofs.Here.{here-none}
 use Rattle.member.specs.Parts.{part, of-votes, of-proposals, of-blocks, of-rest, votes-end, proposals-end, blocks-end, Blank}
 
 -- the parts are as long together as the limits ask for
 pub size-is : (l : Limits) → blocks-end l ≡ memory-size l
-size-is l = omega arith
+size-is l = sym (parts-size l)
 
 pub blanked : (l : Limits) (mem ys : List ℕ) (n : ℕ) → n ≡ memory-size l → length ys ≡ n → ((i : ℕ) → getD ys i 0 ≡ 0) →
     Blank l mem (ys ++ drop n mem)

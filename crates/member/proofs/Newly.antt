@@ -14,7 +14,7 @@ use Rattle.safety.proofs.Counting.{is-false, some-voter, quorum-some}
 use Rattle.safety.proofs.Keeps.{Heard, Ranged, ranged}
 use Rattle.safety.proofs.Chosen.{nil-not-cons, is-certified, certified-has-both, certified-finds, certified-at-most-one, some-certified}
 use Rattle.tally.specs.Votes.{all-in-range, certified-by}
-use Rattle.tally.proofs.Certain.{by-here}
+use Rattle.tally.proofs.Certain.{by-here, by-some}
 
 -- A QUORUM OF OLD AND NEW VOTES
 
@@ -111,12 +111,6 @@ range-of l v (w ∷ ws) good at =
     let (first, rest) = and-parts _ _ good in
     elim (in-cases v w ws at) [ inl e ↦ ranged l v (rw e first) | inr k ↦ range-of l v ws rest k ]
 
--- a quorum is certain of it in some period
-some-period : (l : Limits) (x n : ℕ) (vs : List Vote) → certified-by l x n vs ≡ true → (p : ℕ) × Heard l vs cert p 0 x
-unfolding certified-by
-some-period l x zero vs h = absurd (both-ways false refl h)
-some-period l x (suc n) vs h = elim (or-cases _ _ h) [ inl q ↦ (suc n, q) | inr k ↦ some-period l x n vs k ]
-
 -- a quorum of votes in range is in one of the periods
 pub in-periods : (l : Limits) (p x : ℕ) (vs : List Vote) → 1 ≤ l .members → all-in-range l vs ≡ true →
     Heard l vs cert p 0 x → certified-by l x (l .periods) vs ≡ true
@@ -132,7 +126,7 @@ in-periods l p x vs one good q =
 pub certified-known : (l : Limits) (vs : List Vote) (bs : List ℕ) (x n : ℕ) → 1 ≤ l .members → is-in x bs ≡ true →
     certified-in l vs vs bs ≡ [] → certified-by l x n vs ≡ false
 certified-known l vs bs x n one here none =
-    is-false _ (λ h. let (p, q) = some-period l x n vs h in some-certified l vs bs p x one q here none)
+    is-false _ (λ h. let (p, q) = by-some l x n vs h in some-certified l vs bs p x one q here none)
 
 is-in-first : (x : ℕ) (bs : List ℕ) → is-in x (x ∷ bs) ≡ true
 unfolding is-in
