@@ -7,7 +7,8 @@ use native.Mathlib.Omega.{arith}
 use lib.ListN.{length}
 use Rattle.protocol.specs.Vote.{Limits}
 use Rattle.protocol.specs.Member.{Event}
-use Rattle.protocol.specs.Programs.{memory-size, all-words, Runs, opened, called, Runs-right, Runs-refusal-keeps, Runs-enough-memory}
+use Rattle.protocol.specs.Programs.{memory-size, all-words, Runs, opened, called}
+use Rattle.protocol.specs.Promises.{Runs-right, Runs-refusal-keeps, Runs-enough-memory}
 use Rattle.protocol.proofs.Programs.{program-right, program-refusal-keeps, program-enough-memory}
 use Rattle.member.specs.Calls.{Kept}
 use Rattle.member.specs.Runs.{running, Right-stands, Refusal-keeps-stands, Enough-memory-stands}

@@ -6,8 +6,8 @@ use Prim.Native.Nat.{ℕ, _<_}
 use Rattle.std.proofs.shelf.Tests.{and-parts}
 use Rattle.protocol.specs.Vote.{Limits}
 use Rattle.protocol.specs.Member.{Event}
-use Rattle.protocol.specs.Promises.{Good-limits}
-use Rattle.protocol.specs.Programs.{Contract, Runs, opened, called, Program, Meets, readable, all-readable, memory-of, Runs-right, Right, Runs-refusal-keeps, Refusal-keeps, Runs-enough-memory, Enough-memory}
+use Rattle.protocol.specs.Programs.{Contract, Runs, opened, called, Program, Meets, readable, all-readable, memory-of}
+use Rattle.protocol.specs.Promises.{Good-limits, Runs-right, Right, Runs-refusal-keeps, Refusal-keeps, Runs-enough-memory, Enough-memory}
 
 module _ (can : ℕ → Bool) (c : Contract) (f : Program) (meets : Meets can c f) where
   pub readable-parts : (e : Event) (es : List Event) → all-readable (e ∷ es) ≡ true → (readable e ≡ true) × (all-readable es ≡ true)

@@ -1,15 +1,13 @@
--- What is promised of a program that runs one member in lent memory. Assumes nothing: these are definitions and
--- statements. A program is known by the contracts of its two functions, which are relations; the promises are stated
--- over every run of them, and, as a consequence, for every `Program`, two functions that meet the relations.
+-- A program that runs one member in lent memory. Assumes nothing: these are definitions. A program is known by the
+-- contracts of its two functions, which are relations; a `Program` is two functions that meet them.
 use mathlib.Core.Path.{_≡_}
 use mathlib.Core.Bool.{Bool, true, _&&_}
 use mathlib.Core.List.{List, [], _∷_}
-use Prim.Native.Nat.{ℕ, _+_, _*_, _≤_, _<_}
+use Prim.Native.Nat.{ℕ, _+_, _*_, _<_}
 use lib.Dec.{ltb}
-use lib.ListN.{length}
 use Rattle.protocol.specs.Vote.{Limits, value-bound, word-bound}
-use Rattle.protocol.specs.Member.{Member, new-member, Event, got-vote, got-proposal, got-block, timeout, unreadable, Answer, refusal, answer, after}
-use Rattle.protocol.specs.Promises.{Good-limits}
+use Rattle.protocol.specs.Member.{Member, new-member, Event, got-vote, got-proposal, got-block, timeout, unreadable, Answer, after}
+use Rattle.protocol.specs.Stages.{Good-limits}
 
 -- what the definitions make of all events so far, the last first
 unfoldable pub member-after : Limits → ℕ → List Event → Member
@@ -54,29 +52,6 @@ pub data Runs (c : Contract) (l : Limits) (i : ℕ) : List Event → List ℕ �
   called : {es : List Event} {mem mem′ : List ℕ} {a : Answer} (e : Event) → Runs c l i es mem → readable e ≡ true →
       c .Called mem e mem′ a → Runs c l i (e ∷ es) mem′
 
--- after any events, in any run, ...
-abbrev pub In-runs : (ℕ → Bool) → Contract → (Limits → ℕ → List Event → List ℕ → Type 0) → Type 0
-In-runs can c P =
-    (l : Limits) (i : ℕ) (es : List Event) (mem : List ℕ) → Good-limits can l → i < l .members → Runs c l i es mem → P l i es mem
-
--- ... and one call more
-abbrev pub In-calls : (ℕ → Bool) → Contract → (Limits → ℕ → List Event → List ℕ → Event → List ℕ → Answer → Type 0) → Type 0
-In-calls can c P =
-    In-runs can c (λ l i es mem. (e : Event) (mem′ : List ℕ) (a : Answer) → readable e ≡ true → c .Called mem e mem′ a →
-    P l i es mem e mem′ a)
-
--- THE MAIN PROMISE OF ONE MEMBER: after any events, the answer is what the definitions say.
-abbrev pub Runs-right : (ℕ → Bool) → Contract → Type 0
-Runs-right can c = In-calls can c (λ l i es mem e mem′ a. a ≡ answer l (member-after l i es) e)
-
--- What is refused leaves the memory exactly as it was.
-abbrev pub Runs-refusal-keeps : (ℕ → Bool) → Contract → Type 0
-Runs-refusal-keeps can c = In-calls can c (λ l i es mem e mem′ a. 0 < refusal l (member-after l i es) e → mem′ ≡ mem)
-
--- The memory that the limits ask for is enough for any events.
-abbrev pub Runs-enough-memory : (ℕ → Bool) → Contract → Type 0
-Runs-enough-memory can c = In-runs can c (λ l i es mem. (length mem ≤ memory-size l) × (all-words mem ≡ true))
-
 -- PROGRAMS
 
 -- a program of one member as functions: the memory at opening, and of a memory and an event the memory after and the answer
@@ -93,19 +68,3 @@ pub record Meets (can : ℕ → Bool) (c : Contract) (f : Program) : Type 0 wher
 unfoldable pub memory-of : Program → Limits → ℕ → List Event → List ℕ
 memory-of f l i [] = f .open-with l i
 memory-of f l i (e ∷ es) = f .call (memory-of f l i es) e
-
--- after any events, each answer is what the definitions say
-abbrev pub Right : (ℕ → Bool) → Program → Type 0
-Right can f =
-    (l : Limits) (i : ℕ) (es : List Event) (e : Event) → Good-limits can l → i < l .members → all-readable (e ∷ es) ≡ true →
-    f .answers (memory-of f l i es) e ≡ answer l (member-after l i es) e
-
-abbrev pub Refusal-keeps : (ℕ → Bool) → Program → Type 0
-Refusal-keeps can f =
-    (l : Limits) (i : ℕ) (es : List Event) (e : Event) → Good-limits can l → i < l .members → all-readable (e ∷ es) ≡ true →
-    0 < refusal l (member-after l i es) e → f .call (memory-of f l i es) e ≡ memory-of f l i es
-
-abbrev pub Enough-memory : (ℕ → Bool) → Program → Type 0
-Enough-memory can f =
-    (l : Limits) (i : ℕ) (es : List Event) → Good-limits can l → i < l .members → all-readable es ≡ true →
-    (length (memory-of f l i es) ≤ memory-size l) × (all-words (memory-of f l i es) ≡ true)

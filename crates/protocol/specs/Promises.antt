@@ -4,29 +4,13 @@ use mathlib.Core.Path.{_≡_}
 use mathlib.Core.Bool.{Bool, true, false, not, _&&_, _||_, cond}
 use mathlib.Core.List.{List, [], _∷_}
 use Prim.Native.Nat.{ℕ, _*_, _≤_, _<_}
-use lib.Dec.{ltb, leb, eqb}
+use lib.Dec.{leb, eqb}
+use lib.ListN.{length}
 use Rattle.protocol.specs.Vote.{next, next-none, Vote, Limits, quorum, has-quorum, is-vote-in}
-use Rattle.protocol.specs.Member.{is-in, is-some, Member, Event, timeout, chosen, does, refusal, not-refused, after}
+use Rattle.protocol.specs.Member.{is-in, is-some, Member, Event, timeout, Answer, chosen, does, refusal, not-refused, answer, after}
 use Rattle.protocol.specs.Network.{Network, Reachable, how-many, Few-faulty, Bundle, Certificate}
-
--- the events of the first stage, by their numbers
-abbrev pub thin : ℕ → Bool
-thin k = ltb k 4
-
-abbrev pub all : ℕ → Bool
-all k = true
-
--- the limits with which a member is opened, for a stage that takes the events `can`
-pub record Good-limits (can : ℕ → Bool) (l : Limits) : Type 0 where
-  pub some-member : 1 ≤ l .members
-  pub few-members : l .members ≤ 64
-  pub some-period : 1 ≤ l .periods
-  pub few-periods : l .periods ≤ 32
-  pub some-step : 1 ≤ l .steps
-  pub few-steps : l .steps ≤ 8
-  pub some-block : 1 ≤ l .blocks
-  pub few-blocks : l .blocks ≤ 256
-  pub stage : (k : ℕ) → l .takes k ≡ can k
+use Rattle.protocol.specs.Programs.{member-after, memory-size, readable, all-readable, all-words, Contract, Runs, Program, memory-of}
+pub use Rattle.protocol.specs.Stages.{thin, all, Good-limits}
 
 -- always, in any network that can be: fewer than a third are faulty, and do as they like
 abbrev pub Ever : (ℕ → Bool) → (Limits → (ℕ → Bool) → Network → Type 0) → Type 0
@@ -135,3 +119,48 @@ no-repeat (v ∷ vs) = not (is-vote-in v vs) && no-repeat vs
 
 abbrev pub Said-once : (ℕ → Bool) → Type 0
 Said-once can = Ever can (λ l faulty w. no-repeat (w .said) ≡ true)
+
+-- A MEMBER THAT RUNS
+
+-- of every run of the contracts of its two functions: after any events, ...
+abbrev pub In-runs : (ℕ → Bool) → Contract → (Limits → ℕ → List Event → List ℕ → Type 0) → Type 0
+In-runs can c P =
+    (l : Limits) (i : ℕ) (es : List Event) (mem : List ℕ) → Good-limits can l → i < l .members → Runs c l i es mem → P l i es mem
+
+-- ... and one call more
+abbrev pub In-calls : (ℕ → Bool) → Contract → (Limits → ℕ → List Event → List ℕ → Event → List ℕ → Answer → Type 0) → Type 0
+In-calls can c P =
+    In-runs can c (λ l i es mem. (e : Event) (mem′ : List ℕ) (a : Answer) → readable e ≡ true → c .Called mem e mem′ a →
+    P l i es mem e mem′ a)
+
+-- THE MAIN PROMISE OF ONE MEMBER: after any events, the answer is what the definitions say.
+abbrev pub Runs-right : (ℕ → Bool) → Contract → Type 0
+Runs-right can c = In-calls can c (λ l i es mem e mem′ a. a ≡ answer l (member-after l i es) e)
+
+-- What is refused leaves the memory exactly as it was.
+abbrev pub Runs-refusal-keeps : (ℕ → Bool) → Contract → Type 0
+Runs-refusal-keeps can c = In-calls can c (λ l i es mem e mem′ a. 0 < refusal l (member-after l i es) e → mem′ ≡ mem)
+
+-- The memory that the limits ask for is enough for any events.
+abbrev pub Runs-enough-memory : (ℕ → Bool) → Contract → Type 0
+Runs-enough-memory can c = In-runs can c (λ l i es mem. (length mem ≤ memory-size l) × (all-words mem ≡ true))
+
+-- and, as a consequence, of every program that meets the contracts
+
+-- After any events, each answer is what the definitions say.
+abbrev pub Right : (ℕ → Bool) → Program → Type 0
+Right can f =
+    (l : Limits) (i : ℕ) (es : List Event) (e : Event) → Good-limits can l → i < l .members → all-readable (e ∷ es) ≡ true →
+    f .answers (memory-of f l i es) e ≡ answer l (member-after l i es) e
+
+-- What is refused leaves the memory exactly as it was.
+abbrev pub Refusal-keeps : (ℕ → Bool) → Program → Type 0
+Refusal-keeps can f =
+    (l : Limits) (i : ℕ) (es : List Event) (e : Event) → Good-limits can l → i < l .members → all-readable (e ∷ es) ≡ true →
+    0 < refusal l (member-after l i es) e → f .call (memory-of f l i es) e ≡ memory-of f l i es
+
+-- The memory that the limits ask for is enough for any events.
+abbrev pub Enough-memory : (ℕ → Bool) → Program → Type 0
+Enough-memory can f =
+    (l : Limits) (i : ℕ) (es : List Event) → Good-limits can l → i < l .members → all-readable es ≡ true →
+    (length (memory-of f l i es) ≤ memory-size l) × (all-words (memory-of f l i es) ≡ true)
