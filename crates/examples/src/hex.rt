@@ -3,7 +3,7 @@ ghost use Prim.Native.Nat.{_<_, _≤_};
 ghost use lib.ListN.{length};
 
 // The number of a digit, 0 for what is none.
-pub fn nibble(digit: u8) -> u8
+fn nibble(digit: u8) -> u8
     ensures { λ r. ⌜ r < 16 ⌝ }
 {
     match digit {
@@ -14,7 +14,7 @@ pub fn nibble(digit: u8) -> u8
 }
 
 // Fills the bytes with what the digits write, two to a byte, and gives how many were filled.
-pub fn unhex(digits: &[u8], out: &mut [u8]) -> usize
+pub(crate) fn unhex(digits: &[u8], out: &mut [u8]) -> usize
     ensures { λ r. ⌜ r ≤ length (now (out .exit)) ⌝ }
 {
     for i in 0..digits.len() / 2 {
