@@ -1,5 +1,5 @@
 -- Playing the worked tables: what is computed, and that possible rows reach a network that can be.
-use Rattle.std.proofs.Common.{◌≡◌, ℕ, Bool, true, false, not, ◌&&◌, ltb, List, [], ◌∷◌, refl, lit<, lit≤}
+use Rattle.std.proofs.Common.{◌≡◌, ℕ, Bool, true, List, [], ◌∷◌, refl, lit<, lit≤}
 use Rattle.std.proofs.lemmas.Bool.{and_parts, ltb-true, not-true}
 use Rattle.protocol.specs.Vote.{Limits, slot_taken, is_vote_in, count, has_quorum}
 use Rattle.protocol.specs.Member.{is_some, is_in, event_number, chosen_in, certified_in, keep_best, proposed, say_soft, first_or_zero, next_vote, onward_all, say_cert, agree_on, does, vote_in_range, in_range, is_event, last_refusal, place}

@@ -6,10 +6,10 @@ use Rattle.cells.specs.Blocks.{blocks_in}
 use Rattle.cells.proofs.Here.{here_more}
 use Rattle.cells.proofs.blocks.add_block.Goals as goal
 
-pub returns-then-has-block : goal.returns-then-has-block
-returns-then-has-block c =
+pub returns-then-has_block : goal.returns-then-has_block
+returns-then-has_block c =
     record {
-      is = (sym (cond-true _ _ _ (sym c.if-has-block.ensures.is)), c.requires.within);
+      is = (sym (cond-true _ _ _ (sym c.if-has_block.ensures.is)), c.requires.within);
       only = λ _ _. refl;
       kept = λ _. refl;
     }
@@ -19,10 +19,10 @@ returns c =
     let x = number_of c.args.value.limbs in
     record {
       is = (
-        here_more c.args.blocks.now c.put-value.new.part x c.args.count
-            (sym c.if-has-block.ensures.is) c.put-value.ensures.only c.put-value.ensures.is,
+        here_more c.args.blocks.now c.put_value.new.part x c.args.count
+            (sym c.if-has_block.ensures.is) c.put_value.ensures.only c.put_value.ensures.is,
         omega arith,
       );
-      only = c.put-value.ensures.only;
-      kept = λ here. absurd (both_ways _ (sym c.if-has-block.ensures.is) here);
+      only = c.put_value.ensures.only;
+      kept = λ here. absurd (both_ways _ (sym c.if-has_block.ensures.is) here);
     }

@@ -9,8 +9,8 @@ pub returns : goal.returns
 returns c =
     let xs = c.args.part.now in
     let at = c.args.at in
-    let ys = c.copy-from-slice.new.self in
-    let is : ys ≡ c.args.value.limbs = c.copy-from-slice.ensures.after ∙ c.limbs.ensures.is in
+    let ys = c.copy_from_slice.new.self in
+    let is : ys ≡ c.args.value.limbs = c.copy_from_slice.ensures.after ∙ c.limbs.ensures.is in
     let long : length ys ≡ 4 = ap length is ∙ c.args.value.four in
     let four : 4 ≡ at + 4 - at = omega arith in
     record {

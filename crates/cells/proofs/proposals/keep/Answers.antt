@@ -9,13 +9,13 @@ returns-then-proposals-start-eq0 c =
     let l = proposal_limits c.args.proposal in
     let o = valid_proposal c.args.proposal in
     let part = c.args.proposals.now in
-    let now = c.put-value.new.part in
+    let now = c.put_value.new.part in
     let within : seat o.period + 6 ≤ length part = omega (arith, c.requires.proposals, c.args.proposal.some_period, c.args.proposal.few_periods) in
-    let is = proposal_written part now o.period o.rank _ within c.put-value.ensures.only
-    c.put-value.ensures.is in
+    let is = proposal_written part now o.period o.rank _ within c.put_value.ensures.only
+    c.put_value.ensures.is in
     let only =
-    proposal_only part now o.period o.rank _ within c.put-value.ensures.only
-    c.put-value.ensures.is in
+    proposal_only part now o.period o.rank _ within c.put_value.ensures.only
+    c.put_value.ensures.is in
     let why : (get_or part (seat o.period) 0 ≡ 0) ⊎ (o.rank < get_or part (seat o.period + 1) 0) =
     elim c.then-proposals-start-eq0.branch [
       | then-proposals-start-eq0-via-then-proposals-start-eq0 w ↦ inl w.if-proposals-start-eq0.true

@@ -8,8 +8,8 @@ use Rattle.tally.specs.Layout.{slot_in_range}
 use Rattle.tally.proofs.Index.{alone_good, vote-good}
 use Rattle.examples.proofs.tally.soft.Goals as goal
 
-pub invariant-of-result : goal.invariant-of-result
-invariant-of-result c =
+pub invariant_of-result : goal.invariant_of-result
+invariant_of-result c =
     let l = limits_of all c.args.limits in
     let x = c.value.result in
     let kind : c.number.result ≡ 0 = c.number.ensures.is in

@@ -15,10 +15,10 @@ returns-in-Refused g c =
     let sep = c.args.sep.now in
     let is = one_between sep (refused_text (refusal_number c.in-Refused.refusal) c.in-Refused.place)
     ∙ ap (answer_text sep) (sym c.in-Refused.is) in
-    record { is = λ plain ok. has_written_of_eq g.W.Write.write_str_gives _ _ _ _ is (c.put-refused.ensures.is plain ok) }
+    record { is = λ plain ok. has_written_of_eq g.W.Write.write_str_gives _ _ _ _ is (c.put_refused.ensures.is plain ok) }
 
-pub returns-in-ok-put-said : goal.returns-in-ok-put-said
-returns-in-ok-put-said g c =
+pub returns-in_ok-put_said : goal.returns-in_ok-put_said
+returns-in_ok-put_said g c =
     let took = g.W.Write.write_str_gives in
     let sep = c.args.sep.now in
     let votes = map vote_text (said_of c.in-Says.said) in
@@ -26,7 +26,7 @@ returns-in-ok-put-said g c =
     ∙ ap (answer_text sep) (sym c.in-Says.is) in
     record {
       is = λ plain ok.
-          let said = c.in-ok-put-said.ensures.is plain refl in
-          let agreed = c.put-agreed.ensures.is said.plain ok in
+          let said = c.in_ok-put_said.ensures.is plain refl in
+          let agreed = c.put_agreed.ensures.is said.plain ok in
           has_written_of_eq took _ _ _ _ is (has_written_append took _ _ _ _ _ said agreed);
     }

@@ -5,6 +5,6 @@ use Rattle.lines.proofs.answers.put_followed.Goals as goal
 pub returns : goal.returns
 returns g c = record {
   is = λ plain ok.
-      let vote = c.in-ok-put-vote.ensures.is plain refl in
-      has_written_append g.W.Write.write_str_gives _ _ _ _ _ vote (c.write-str.ensures.writes vote.plain ok);
+      let vote = c.in_ok-put_vote.ensures.is plain refl in
+      has_written_append g.W.Write.write_str_gives _ _ _ _ _ vote (c.write_str.ensures.writes vote.plain ok);
 }

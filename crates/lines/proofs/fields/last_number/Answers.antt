@@ -3,15 +3,15 @@ use Rattle.decimals.proofs.Spelled.{shown_number}
 use Rattle.lines.proofs.Reading.{last_from_whole, not_spelled}
 use Rattle.lines.proofs.fields.last_number.Goals as goal
 
-pub returns-in-err-number : goal.returns-in-err-number
-returns-in-err-number c =
+pub returns-in_err-number : goal.returns-in_err-number
+returns-in_err-number c =
     let text = c.args.text.now in
-    let none = not_spelled text c.in-err-number.ensures.is in
+    let none = not_spelled text c.in_err-number.ensures.is in
     record { is = rw c.from-residual.ensures (last_from_whole (2 ^ 64) (λ (n : ℕ). n) text None none) }
 
 pub returns : goal.returns
 returns c =
     let text = c.args.text.now in
-    let n = c.in-ok-number.number in
-    let is = c.in-ok-number.ensures.is ∙ shown_number n (omega arith) in
+    let n = c.in_ok-number.number in
+    let is = c.in_ok-number.ensures.is ∙ shown_number n (omega arith) in
     record { is = last_from_whole (2 ^ 64) (λ (n : ℕ). n) text (Some n) is }

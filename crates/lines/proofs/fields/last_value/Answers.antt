@@ -5,5 +5,5 @@ use Rattle.lines.proofs.fields.last_value.Goals as goal
 
 pub returns : goal.returns
 returns c =
-    let read = c.read-value in
+    let read = c.read_value in
     record { is = last_from_whole (2 ^ 256) value_of c.args.text.now read.result read.ensures.is }

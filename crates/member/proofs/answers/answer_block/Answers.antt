@@ -22,12 +22,12 @@ use Rattle.member.proofs.answers.answer_block.Goals as goal
 counted : (x : Member) (mem : List ℕ) (m : OfMember) → Stands x mem m → length m.blocks ≡ x.blocks
 counted x mem m h = ap length (sym h.blocks) ∙ length-blocks (part of_blocks (lim x) mem) x.blocks
 
-pub returns-in-default : goal.returns-in-default
+pub returns-in_default : goal.returns-in_default
 unfolding place
-returns-in-default c =
+returns-in_default c =
     let x : Member = c.args.member in
     let v : Value = c.args.value in
-    let full = c.in-default.ensures.is in
+    let full = c.in_default.ensures.is in
     let mem : List ℕ = c.args.memory.now in
     let e : Event = got_block (value_of v) in
     record {
@@ -44,13 +44,13 @@ returns c =
     let x : Member = c.args.member in
     let y : Member = c.in-Some.done.0 in
     let v : Value = c.args.value in
-    let mid : List ℕ = c.on-block.new.memory in
+    let mid : List ℕ = c.on_block.new.memory in
     let room = c.in-Some.ensures.is in
     record {
       is = λ m header stands ready.
           done x y c.args.memory.now mid c.says.new.memory m (got_block (value_of v)) c.says.result _
           (block_taken (lim x) m (λ k. refl) ready.open_minded (value_of v) (value_below v.limbs v.four v.fit)
           (λ h. omega (arith, counted x c.args.memory.now m stands, room.0 (ap (is_in (value_of v)) stands.blocks ∙ h))))
-          c.in-Some.ensures.same header c.on-block.ensures.only (omega arith) (room.1 m stands ready)
+          c.in-Some.ensures.same header c.on_block.ensures.only (omega arith) (room.1 m stands ready)
           c.says.ensures.is c.says.ensures.carries c.says.ensures.only;
     }

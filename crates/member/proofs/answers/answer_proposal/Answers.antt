@@ -9,20 +9,20 @@ use Rattle.member.proofs.Deciding.{proposal_taken, done}
 use Rattle.cells.proofs.InRange.{proposal_periods}
 use Rattle.member.proofs.answers.answer_proposal.Goals as goal
 
-pub on-proposal-said-requires : goal.on-proposal-said-requires
-on-proposal-said-requires c =
+pub on_proposal-said-requires : goal.on_proposal-said-requires
+on_proposal-said-requires c =
     let p = proposal_periods (lim c.args.member) (proposal_of c.args.proposal) c.requires.proposal in
     record { long = c.requires.long; some = p.0; few = p.1 }
 
 pub returns : goal.returns
 returns c =
     let x : Member = c.args.member in
-    let y : Member = c.on-proposal-said.result.0 in
+    let y : Member = c.on_proposal-said.result.0 in
     record {
       is = λ m header stands ready.
-          done x y c.args.memory.now c.on-proposal-said.new.memory c.says.new.memory m (got_proposal (proposal_of c.args.proposal))
+          done x y c.args.memory.now c.on_proposal-said.new.memory c.says.new.memory m (got_proposal (proposal_of c.args.proposal))
           c.says.result _
           (proposal_taken (lim x) m (λ k. refl) ready.open_minded (proposal_of c.args.proposal) c.requires.proposal)
-          c.on-proposal-said.ensures.same header c.on-proposal-said.ensures.only (omega arith)
-          (c.on-proposal-said.ensures.is m stands ready) c.says.ensures.is c.says.ensures.carries c.says.ensures.only;
+          c.on_proposal-said.ensures.same header c.on_proposal-said.ensures.only (omega arith)
+          (c.on_proposal-said.ensures.is m stands ready) c.says.ensures.is c.says.ensures.carries c.says.ensures.only;
     }

@@ -10,32 +10,32 @@ use Rattle.moves.specs.Stands.{Stands}
 use Rattle.member.proofs.Deciding.{time_refused, time_taken, refuse, done}
 use Rattle.member.proofs.answers.answer_timeout.Goals as goal
 
-pub returns-in-default : goal.returns-in-default
+pub returns-in_default : goal.returns-in_default
 unfolding place
-returns-in-default c =
+returns-in_default c =
     let x : Member = c.args.member in
     record {
       is = λ m header stands ready.
           refuse x c.args.memory.now m timeout 4 _
           (time_refused (lim x) m (λ k. refl) ready.open_minded
-          (λ h. c.in-default.ensures.is (omega (arith, h.0, stands.step), omega (arith, h.1, stands.period)))) refl header stands;
+          (λ h. c.in_default.ensures.is (omega (arith, h.0, stands.step), omega (arith, h.1, stands.period)))) refl header stands;
     }
 
 pub returns : goal.returns
 returns c =
     let x : Member = c.args.member in
-    let y : Member = c.on-timeout-said.result.0 in
+    let y : Member = c.on_timeout-said.result.0 in
     let mem : List ℕ = c.args.memory.now in
-    let mid : List ℕ = c.on-timeout-said.new.memory in
+    let mid : List ℕ = c.on_timeout-said.new.memory in
     let time = c.in-Some.ensures.is in
     record {
       is = λ m header stands ready.
-          let did : Did y mid (said_of c.on-timeout-said.result.1) (does (lim x) m timeout) =
-          subst (λ (z : Member). Stands z mem m → Ready (lim z) m → Did y mid (said_of c.on-timeout-said.result.1) (does (lim z) m timeout))
-          time.0 (c.on-timeout-said.ensures.is m) stands ready in
+          let did : Did y mid (said_of c.on_timeout-said.result.1) (does (lim x) m timeout) =
+          subst (λ (z : Member). Stands z mem m → Ready (lim z) m → Did y mid (said_of c.on_timeout-said.result.1) (does (lim z) m timeout))
+          time.0 (c.on_timeout-said.ensures.is m) stands ready in
           done x y mem mid c.says.new.memory m timeout c.says.result _
           (time_taken (lim x) m (λ k. refl) ready.open_minded (omega (arith, time.1.0, stands.step)) (omega (arith, time.1.1, stands.period)))
-          (subst (λ (z : Member). Same z y) time.0 c.on-timeout-said.ensures.same) header
-          (subst (λ (z : Member). KeptParts (lim z) mem mid) time.0 c.on-timeout-said.ensures.only) (omega arith) did
+          (subst (λ (z : Member). Same z y) time.0 c.on_timeout-said.ensures.same) header
+          (subst (λ (z : Member). KeptParts (lim z) mem mid) time.0 c.on_timeout-said.ensures.only) (omega arith) did
           c.says.ensures.is c.says.ensures.carries c.says.ensures.only;
     }

@@ -9,26 +9,26 @@ use Rattle.member.proofs.Answering.{out_of_range_is, agreed_before-is}
 use Rattle.member.proofs.Deciding.{refuse, no_place}
 use Rattle.member.proofs.answers.answer_to.Goals as goal
 
-pub returns-in-default : goal.returns-in-default
-returns-in-default c =
+pub returns-in_default : goal.returns-in_default
+returns-in_default c =
     let x : Member = c.args.member in
     let e : Event = event_of c.args.event in
     record {
       is = λ m header stands lone.
           refuse x c.args.memory.now m e 1 _
-          (out_of_range_is (lim x) m e (real_event c.args.event) refl c.in-default.ensures.is)
+          (out_of_range_is (lim x) m e (real_event c.args.event) refl c.in_default.ensures.is)
           (no_place c.args.event _) header stands;
     }
 
-pub returns-in-default-undecided : goal.returns-in-default-undecided
-returns-in-default-undecided c =
+pub returns-in_default-undecided : goal.returns-in_default-undecided
+returns-in_default-undecided c =
     let x : Member = c.args.member in
     let e : Event = event_of c.args.event in
     record {
       is = λ m header stands lone.
           refuse x c.args.memory.now m e 2 _
           (agreed_before-is (lim x) m e (real_event c.args.event) refl c.in-Some.ensures.is.1
-          (c.in-default-undecided.ensures.is c.args.memory.now m stands))
+          (c.in_default-undecided.ensures.is c.args.memory.now m stands))
           (no_place c.args.event _) header stands;
     }
 
@@ -36,9 +36,9 @@ returns-in-default-undecided c =
 was : (event good open' e : code.Event) → good ≡ event → open' ≡ good → open' ≡ e → event ≡ e
 was event good open' e p q h = sym p ∙ sym q ∙ h
 
-pub answer-vote-requires : goal.answer-vote-requires
+pub answer_vote-requires : goal.answer_vote-requires
 unfolding in_range
-answer-vote-requires c = record {
+answer_vote-requires c = record {
   long = c.requires.long;
   vote = subst (λ (e : code.Event). in_range (lim c.args.member) (event_of e) ≡ true)
       (was _ _ _ _ c.in-Some.ensures.is.0 c.in-Some-undecided.ensures.same c.in-Vote.is)

@@ -9,19 +9,19 @@ use Rattle.wire.specs.Meaning.{vote_of, said_of}
 use Rattle.member.proofs.Deciding.{vote-refused, vote_taken, refuse, done}
 use Rattle.member.proofs.answers.answer_vote.Goals as goal
 
-pub returns-in-default : goal.returns-in-default
+pub returns-in_default : goal.returns-in_default
 unfolding place
-returns-in-default c =
+returns-in_default c =
     let x : Member = c.args.member in
     let v : Vote = vote_of c.args.vote in
     record {
       is = λ m header stands ready.
           refuse x c.args.memory.now m (got_vote v) 3 _
-          (vote-refused (lim x) m (λ k. refl) ready.open_minded v c.requires.vote (c.in-default.ensures.is m stands)) refl header stands;
+          (vote-refused (lim x) m (λ k. refl) ready.open_minded v c.requires.vote (c.in_default.ensures.is m stands)) refl header stands;
     }
 
-pub on-vote-said-requires : goal.on-vote-said-requires
-on-vote-said-requires c = record {
+pub on_vote-said-requires : goal.on_vote-said-requires
+on_vote-said-requires c = record {
   long = c.requires.long;
   vote = subst (λ (w : code-vote.Vote). vote_in_range (lim c.args.member) (vote_of w) ≡ true) (sym c.in-Some.ensures.same) c.requires.vote;
 }
@@ -29,18 +29,18 @@ on-vote-said-requires c = record {
 pub returns : goal.returns
 returns c =
     let x : Member = c.args.member in
-    let y : Member = c.on-vote-said.result.0 in
+    let y : Member = c.on_vote-said.result.0 in
     let v : Vote = vote_of c.args.vote in
-    let mid : List ℕ = c.on-vote-said.new.memory in
+    let mid : List ℕ = c.on_vote-said.new.memory in
     let same : c.in-Some.vote ≡ c.args.vote = c.in-Some.ensures.same in
     record {
       is = λ m header stands ready.
           let free = c.in-Some.ensures.is m stands in
           done x y c.args.memory.now mid c.says.new.memory m (got_vote v) c.says.result _
           (vote_taken (lim x) m (λ k. refl) ready.open_minded v c.requires.vote free.0 free.1)
-          c.on-vote-said.ensures.same header c.on-vote-said.ensures.only (omega arith)
-          (subst (λ (w : code-vote.Vote). Did y mid (said_of c.on-vote-said.result.1) (does (lim x) m (got_vote (vote_of w)))) same
-          (c.on-vote-said.ensures.is m stands ready
+          c.on_vote-said.ensures.same header c.on_vote-said.ensures.only (omega arith)
+          (subst (λ (w : code-vote.Vote). Did y mid (said_of c.on_vote-said.result.1) (does (lim x) m (got_vote (vote_of w)))) same
+          (c.on_vote-said.ensures.is m stands ready
           (subst (λ (w : code-vote.Vote). slot_taken (vote_of w) m.votes ≡ false) (sym same) free.0)
           (λ h. free.1 (ap (λ (w : code-vote.Vote). w.from) (sym same) ∙ h))))
           c.says.ensures.is c.says.ensures.carries c.says.ensures.only;

@@ -20,7 +20,7 @@ returns-in-Vote c = record {
 
 pub returns-in-Proposal : goal.returns-in-Proposal
 returns-in-Proposal c = record {
-  is = c.is-some-in-Proposal.ensures
+  is = c.is_some-in-Proposal.ensures
       ∙ some_proposal c.args.limits c.in-Proposal.proposal c.new-in-Proposal.result c.new-in-Proposal.ensures.is
       ∙ ap (λ (e : code.Event). in_range (limits_of all c.args.limits) (event_of e)) (sym c.in-Proposal.is);
 }

@@ -9,13 +9,13 @@ use Rattle.member.proofs.opening.call.Goals as goal
 pub returns-in-Ok : goal.returns-in-Ok
 returns-in-Ok c =
     let mem : List ℕ = c.args.memory.now in
-    let new : List ℕ = c.answer-to.new.memory in
+    let new : List ℕ = c.answer_to.new.memory in
     record {
       is = (
         (c.in-Some.member, c.in-Some.ensures.is),
-        subst (λ (e : Event). Called mem e new (answer_of c.answer-to.result)) c.in-Ok.ensures.is
-            (called mem new c.in-Some.member (event_of c.in-Ok.event) c.answer-to.result c.in-Some.ensures.is
-            c.answer-to.ensures.is (omega arith) (words_by_places new (λ i. (c.type-inv.memory i).fits))),
+        subst (λ (e : Event). Called mem e new (answer_of c.answer_to.result)) c.in-Ok.ensures.is
+            (called mem new c.in-Some.member (event_of c.in-Ok.event) c.answer_to.result c.in-Some.ensures.is
+            c.answer_to.ensures.is (omega arith) (words_by_places new (λ i. (c.type_inv.memory i).fits))),
       );
     }
 

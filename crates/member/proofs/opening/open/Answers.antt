@@ -13,8 +13,8 @@ returns c =
       is = (
         made.0,
         opening c.args.members c.args.periods c.args.steps c.args.blocks c.args.me c.in-Ok.limits
-            c.args.memory.now c.write-new.new.memory made.1 (omega (arith, c.if-me-limits.false, made.1.0))
-            c.write-new.ensures.is c.write-new.ensures.rest (omega arith)
-            (words_by_places c.write-new.new.memory (λ i. (c.type-inv.memory i).fits)),
+            c.args.memory.now c.write_new.new.memory made.1 (omega (arith, c.if-me-limits.false, made.1.0))
+            c.write_new.ensures.is c.write_new.ensures.rest (omega arith)
+            (words_by_places c.write_new.new.memory (λ i. (c.type_inv.memory i).fits)),
       );
     }

@@ -7,11 +7,11 @@ use Rattle.member.proofs.opening.take.Goals as goal
 pub returns : goal.returns
 returns c =
     let mem : List ℕ = c.args.memory.now in
-    let new : List ℕ = c.answer-to.new.memory in
+    let new : List ℕ = c.answer_to.new.memory in
     record {
       is = (
         (c.in-Some.member, c.in-Some.ensures.is),
-        called mem new c.in-Some.member (event_of c.args.event) c.answer-to.result c.in-Some.ensures.is
-            c.answer-to.ensures.is (omega arith) (words_by_places new (λ i. (c.type-inv.memory i).fits)),
+        called mem new c.in-Some.member (event_of c.args.event) c.answer_to.result c.in-Some.ensures.is
+            c.answer_to.ensures.is (omega arith) (words_by_places new (λ i. (c.type_inv.memory i).fits)),
       );
     }

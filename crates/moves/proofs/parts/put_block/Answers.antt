@@ -13,10 +13,10 @@ returns c =
     let l : Limits = limits_of all c.args.limits in
     let mem : List ℕ = c.args.memory.now in
     let ys : List ℕ = c.add_block.new.blocks in
-    let s : ℕ = c.proposals-end-start.result in
-    let e : ℕ = c.blocks-end-end.result in
-    let start : s ≡ proposals_end l = c.proposals-end-start.ensures.is in
-    let end : e ≡ blocks_end l = c.blocks-end-end.ensures.is in
+    let s : ℕ = c.proposals_end-start.result in
+    let e : ℕ = c.blocks_end-end.result in
+    let start : s ≡ proposals_end l = c.proposals_end-start.ensures.is in
+    let end : e ≡ blocks_end l = c.blocks_end-end.ensures.is in
     let within : e ≤ length mem = omega arith in
     let sized : length ys ≡ e - s = omega arith in
     record {

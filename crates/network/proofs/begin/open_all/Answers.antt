@@ -29,8 +29,8 @@ overflow-add-end c =
           c.loop-member.invariant.1.1,
     )
 
-pub open-in-requires : goal.open-in-requires
-open-in-requires c = record {
+pub open_in-requires : goal.open_in-requires
+open_in-requires c = record {
   size = ap (λ (n : ℕ). c.loop-member.start + n) c.memory_size.ensures.is;
   within = room_left (limits_of all c.args.limits) (has c.args.faulty.bits) c.loop-member.member
       (vec_len c.loop-member.memory) (vec_len c.args.memory.now) _ _ c.loop-member.invariant.0
@@ -53,10 +53,10 @@ loop-member-preserved c =
                 ∙ ap (λ (k : ℕ). k + memory_size l) c.loop-member.invariant.0 ∙ start_more l faulty n good,
             (
               rw w.memory-is (new_more l faulty n mem c.loop-member.invariant.1.0
-                  (vec_items w.open-in.new.memory) _ _ good c.loop-member.invariant.0
-                  (ap (λ (k : ℕ). c.loop-member.start + k) c.memory_size.ensures.is) w.open-in.ensures.is
-                  w.open-in.ensures.only),
-              rw w.memory-is (w.open-in.ensures.len ∙ c.loop-member.invariant.1.1),
+                  (vec_items w.open_in.new.memory) _ _ good c.loop-member.invariant.0
+                  (ap (λ (k : ℕ). c.loop-member.start + k) c.memory_size.ensures.is) w.open_in.ensures.is
+                  w.open_in.ensures.only),
+              rw w.memory-is (w.open_in.ensures.len ∙ c.loop-member.invariant.1.1),
             ),
           )
       | else-not-has w ↦

@@ -9,27 +9,27 @@ use Rattle.network.proofs.parts.open_in.Goals as goal
 
 pub returns : goal.returns
 returns c =
-    let all' : List ℕ = c.as-mut-slice-all.result.now in
+    let all' : List ℕ = c.as_mut_slice-all.result.now in
     let part : List ℕ = c.open.new.memory in
     let order : c.args.start ≤ c.args.end = omega (arith, c.requires.size) in
     record {
       is = subst (λ (new : List ℕ). Opened (limits_of all c.args.limits) c.args.me new)
           (sym (part-is c.args.start c.args.end c.args.memory.now.len (vec_items c.args.memory.now)
           all' part _
-          order c.requires.within c.as-mut-slice-all.ensures.value c.as-mut-slice-all.ensures.len
+          order c.requires.within c.as_mut_slice-all.ensures.value c.as_mut_slice-all.ensures.len
           (omega arith)))
           (c.in-Ok.ensures.is.1.is (limits_of all c.args.limits) (numbers_of c.args.limits));
       only = part-only c.args.start c.args.end c.args.memory.now.len (vec_items c.args.memory.now)
           all' part _
-          order c.requires.within c.as-mut-slice-all.ensures.value c.as-mut-slice-all.ensures.len
+          order c.requires.within c.as_mut_slice-all.ensures.value c.as_mut_slice-all.ensures.len
           (omega arith);
       len = refl;
     }
 
 pub unreachable-requires : goal.unreachable-requires
 unreachable-requires c =
-    let all' : List ℕ = c.as-mut-slice-all.result.now in
+    let all' : List ℕ = c.as_mut_slice-all.result.now in
     let long : memory_size (limits_of all c.args.limits) ≤ length
     (take (c.args.end - c.args.start) (drop c.args.start all')) =
-    simp (length-take, length-drop) (omega (arith, c.requires.size, c.requires.within, c.as-mut-slice-all.ensures.len)) in
+    simp (length-take, length-drop) (omega (arith, c.requires.size, c.requires.within, c.as_mut_slice-all.ensures.len)) in
     no_error c.args.limits c.args.me _ _ c.in-Err.field-0 c.requires.me long c.in-Err.ensures.is

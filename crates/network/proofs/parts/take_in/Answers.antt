@@ -7,7 +7,7 @@ use Rattle.network.proofs.parts.take_in.Goals as goal
 
 pub returns : goal.returns
 returns c =
-    let all : List ℕ = c.as-mut-slice-all.result.now in
+    let all : List ℕ = c.as_mut_slice-all.result.now in
     let part : List ℕ = c.take.new.memory in
     record {
       is = subst (λ (new : List ℕ). ByCall
@@ -15,14 +15,14 @@ returns c =
           c.take.result)
           (sym (part-is c.args.start c.args.end c.args.memory.now.len (vec_items c.args.memory.now)
           all part _
-          c.requires.order c.requires.within c.as-mut-slice-all.ensures.value c.as-mut-slice-all.ensures.len
+          c.requires.order c.requires.within c.as_mut_slice-all.ensures.value c.as_mut_slice-all.ensures.len
           (omega arith)))
           (subst (λ (old : List ℕ). ByCall (between c.args.start c.args.end old) (event_of c.args.event)
           part c.take.result)
-          c.as-mut-slice-all.ensures.value c.take.ensures.is);
+          c.as_mut_slice-all.ensures.value c.take.ensures.is);
       only = part-only c.args.start c.args.end c.args.memory.now.len (vec_items c.args.memory.now)
           all part _
-          c.requires.order c.requires.within c.as-mut-slice-all.ensures.value c.as-mut-slice-all.ensures.len
+          c.requires.order c.requires.within c.as_mut_slice-all.ensures.value c.as_mut_slice-all.ensures.len
           (omega arith);
       len = refl;
     }

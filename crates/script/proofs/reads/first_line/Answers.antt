@@ -3,8 +3,8 @@ use Rattle.std.proofs.lemmas.Bool.{eqb-true, eqb-false}
 use Rattle.script.proofs.Files.{no_line, line_at, last_line_is}
 use Rattle.script.proofs.reads.first_line.Goals as goal
 
-pub returns-then-is-empty : goal.returns-then-is-empty
-returns-then-is-empty c = record { is = no_line c.args.text.now (eqb-true _ _ (sym c.if-is-empty.ensures)) }
+pub returns-then-is_empty : goal.returns-then-is_empty
+returns-then-is_empty c = record { is = no_line c.args.text.now (eqb-true _ _ (sym c.if-is_empty.ensures)) }
 
 pub returns-in-Some : goal.returns-in-Some
 returns-in-Some c =
@@ -13,5 +13,5 @@ returns-in-Some c =
 
 pub returns-in-None : goal.returns-in-None
 returns-in-None c =
-    let some = eqb-false _ _ (sym c.if-is-empty.ensures) in
+    let some = eqb-false _ _ (sym c.if-is_empty.ensures) in
     record { is = last_line_is c.args.text.now some c.in-None.ensures.is }

@@ -4,25 +4,25 @@ use Rattle.lines.proofs.Reading.{not_spelled, first_word}
 use Rattle.script.proofs.Reading.{one_word_none}
 use Rattle.script.proofs.reads.read_delivery.Goals as goal
 
-pub returns-in-err-to : goal.returns-in-err-to
-returns-in-err-to c =
+pub returns-in_err-to : goal.returns-in_err-to
+returns-in_err-to c =
     record {
       is = rw c.from-residual.ensures
-          (λ i e small is fits q. one_word_none i e is c.in-err-to.ensures.is q);
+          (λ i e small is fits q. one_word_none i e is c.in_err-to.ensures.is q);
     }
 
-pub returns-in-err-to-2 : goal.returns-in-err-to-2
-returns-in-err-to-2 c =
-    let at = c.in-ok-to.ensures.is in
-    let no_number = not_spelled c.in-ok-to.to.now c.in-err-to-2.ensures.is in
+pub returns-in_err-to-2 : goal.returns-in_err-to-2
+returns-in_err-to-2 c =
+    let at = c.in_ok-to.ensures.is in
+    let no_number = not_spelled c.in_ok-to.to.now c.in_err-to-2.ensures.is in
     record {
-      is = rw c.from-residual-in-err-to-2.ensures (λ i e small is fits q. no_number i small (first_word at q));
+      is = rw c.from-residual-in_err-to-2.ensures (λ i e small is fits q. no_number i small (first_word at q));
     }
 
 pub returns : goal.returns
 returns c =
-    let at = c.in-ok-to.ensures.is in
-    let to = c.in-ok-to-2.ensures.is in
-    let event = c.in-ok-event.ensures.is in
-    let same = spelled_decimal c.in-ok-to-2.to (omega arith) in
+    let at = c.in_ok-to.ensures.is in
+    let to = c.in_ok-to-2.ensures.is in
+    let event = c.in_ok-event.ensures.is in
+    let same = spelled_decimal c.in_ok-to-2.to (omega arith) in
     record { is = cc }

@@ -8,7 +8,7 @@ use Rattle.script.proofs.reads.read_faulty.Goals as goal
 pub returns-in-Some-number : goal.returns-in-Some-number
 returns-in-Some-number c =
     let at = c.in-Some.ensures.is in
-    let name = c.if-not-is-word.ensures.is.0 refl in
+    let name = c.if-not-is_word.ensures.is.0 refl in
     let member = c.in-Some-number.ensures.is in
     let same = spelled_decimal c.in-Some-number.member (omega arith) in
     let alone = one_word c.in-Some-number.member in
@@ -21,7 +21,7 @@ returns-in-None c =
     let no_number = not_spelled member c.in-None.ensures.is in
     record {
       is = (
-        ap (λ (ws : List (List ℕ)). get_or ws 0 []) at ∙ c.if-not-is-word.ensures.is.0 refl,
+        ap (λ (ws : List (List ℕ)). get_or ws 0 []) at ∙ c.if-not-is_word.ensures.is.0 refl,
         λ i small q. no_number i small (only_word member (spelled i) (after_word at q)),
       );
     }

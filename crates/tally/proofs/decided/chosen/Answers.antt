@@ -7,7 +7,7 @@ use Rattle.cells.specs.Blocks.{blocks_in}
 use Rattle.tally.proofs.Index.{alone_good, row_within}
 use Rattle.tally.proofs.OneChosen.{chosen-out, chosen_majority}
 use Rattle.tally.proofs.decided.chosen.Goals as goal
-use Rattle.tally.proofs.decided.chosen.Goals.{else-quorum-for-via-then-quorum-for+else-has-block, else-quorum-for-via-else-quorum-for}
+use Rattle.tally.proofs.decided.chosen.Goals.{else-quorum_for-via-then-quorum_for+else-has_block, else-quorum_for-via-else-quorum_for}
 
 pub returns-then-period-lt1 : goal.returns-then-period-lt1
 returns-then-period-lt1 c =
@@ -30,8 +30,8 @@ majority-value-requires c =
     let within = row_within l 0 c.args.period 0 good c.args.limits.some_member in
     record { within = omega (arith, within, c.row.ensures.is, c.requires.votes) }
 
-pub returns-then-has-block : goal.returns-then-has-block
-returns-then-has-block c =
+pub returns-then-has_block : goal.returns-then-has_block
+returns-then-has_block c =
     let l = limits_of all c.args.limits in
     let good = alone_good l 0 c.args.period (omega arith) c.if-period-lt1.false c.if-period-limits.false in
     let bs = blocks_in c.args.blocks.now c.args.count in
@@ -40,7 +40,7 @@ returns-then-has-block c =
           chosen_majority l c.args.votes.now vs bs c.args.period _
           (number_of c.majority-value.result.limbs) true h
           c.args.limits.some_member good c.row.ensures.is c.majority-value.ensures.is
-          (and_from _ _ (sym (c.if-quorum-for.ensures.is vs h)) (sym c.if-has-block.ensures.is));
+          (and_from _ _ (sym (c.if-quorum_for.ensures.is vs h)) (sym c.if-has_block.ensures.is));
     }
 
 pub returns : goal.returns
@@ -53,9 +53,9 @@ returns c =
           chosen_majority l c.args.votes.now vs bs c.args.period _
           (number_of c.majority-value.result.limbs) false h
           c.args.limits.some_member good c.row.ensures.is c.majority-value.ensures.is
-          (elim c.else-quorum-for.branch [
-            | else-quorum-for-via-then-quorum-for+else-has-block w ↦ and_right _ _
-                (sym w.if-has-block.ensures.is)
-            | else-quorum-for-via-else-quorum-for w ↦ and_left _ _ (sym (w.if-quorum-for.ensures.is vs h))
+          (elim c.else-quorum_for.branch [
+            | else-quorum_for-via-then-quorum_for+else-has_block w ↦ and_right _ _
+                (sym w.if-has_block.ensures.is)
+            | else-quorum_for-via-else-quorum_for w ↦ and_left _ _ (sym (w.if-quorum_for.ensures.is vs h))
           ]);
     }

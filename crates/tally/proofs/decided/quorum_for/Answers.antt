@@ -12,8 +12,8 @@ pub row-requires : goal.row-requires
 row-requires c =
     record { slot = alone_good (limits_of all c.args.limits) _ _ (omega arith) c.requires.some c.requires.few }
 
-pub quorum-in-requires : goal.quorum-in-requires
-quorum-in-requires c =
+pub quorum_in-requires : goal.quorum_in-requires
+quorum_in-requires c =
     let l = limits_of all c.args.limits in
     let good = alone_good l c.args.kind c.args.period (omega arith) c.requires.some c.requires.few in
     let within = row_within l _ _ _ good c.args.limits.some_member in
@@ -28,7 +28,7 @@ returns c =
     let good = alone_good l c.args.kind c.args.period (omega arith) c.requires.some c.requires.few in
     record {
       is = λ vs h.
-          c.quorum-in.ensures.is
+          c.quorum_in.ensures.is
           ∙ ap (λ n. leb (quorum limits.members) (row_count part n limits.members x)) c.row.ensures.is
           ∙ sym (quorum-row l part vs h c.args.kind c.args.period 0 x good);
     }

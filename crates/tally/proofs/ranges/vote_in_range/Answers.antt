@@ -10,17 +10,17 @@ use Rattle.tally.proofs.KindOf.{is-soft, is-cert, is-next, is-next_none, some_ki
 use Rattle.tally.proofs.InRange.{not_in_range, first_range, later_range}
 use Rattle.tally.proofs.ranges.vote_in_range.Goals as goal
 
-pub returns-in-default : goal.returns-in-default
-returns-in-default c = record { is = not_in_range _ _ (λ r. some_kind c.args.vote.kind (ranged _ _ r).kinds (sym c.of.ensures.is ∙ c.in-default.is)) }
+pub returns-in_default : goal.returns-in_default
+returns-in_default c = record { is = not_in_range _ _ (λ r. some_kind c.args.vote.kind (ranged _ _ r).kinds (sym c.of.ensures.is ∙ c.in_default.is)) }
 
 pub returns-then-vote-lt1 : goal.returns-then-vote-lt1
 returns-then-vote-lt1 c = record { is = not_in_range _ _ (λ r. omega (arith, (ranged _ _ r).from_1, c.if-vote-lt1.true)) }
 
-pub returns-then-vote-limits : goal.returns-then-vote-limits
-returns-then-vote-limits c = record { is = not_in_range _ _ (λ r. omega (arith, (ranged _ _ r).periods, c.if-vote-limits.true)) }
+pub returns-then-vote_limits : goal.returns-then-vote_limits
+returns-then-vote_limits c = record { is = not_in_range _ _ (λ r. omega (arith, (ranged _ _ r).periods, c.if-vote_limits.true)) }
 
-pub returns-then-vote-limits-2 : goal.returns-then-vote-limits-2
-returns-then-vote-limits-2 c = record { is = not_in_range _ _ (λ r. omega (arith, (ranged _ _ r).member, c.if-vote-limits-2.true)) }
+pub returns-then-vote_limits-2 : goal.returns-then-vote_limits-2
+returns-then-vote_limits-2 c = record { is = not_in_range _ _ (λ r. omega (arith, (ranged _ _ r).member, c.if-vote_limits-2.true)) }
 
 pub returns-in-Soft : goal.returns-in-Soft
 returns-in-Soft c =
@@ -31,7 +31,7 @@ returns-in-Soft c =
     elim c.in-Soft.is
     [ inl e ↦ omega (arith, is-soft v.kind (of ∙ ap Some e)) | inr e ↦ omega (arith, is-cert v.kind (of ∙ ap Some e)) ] in
     record {
-      is = first_range (limits_of all c.args.limits) v c.if-vote-lt1.false c.if-vote-limits.false c.if-vote-limits-2.false
+      is = first_range (limits_of all c.args.limits) v c.if-vote-lt1.false c.if-vote_limits.false c.if-vote_limits-2.false
           (value_below x.limbs x.four x.fit) first;
     }
 
@@ -41,26 +41,26 @@ returns-in-Next c =
     let x = c.args.vote.value in
     let kind : v.kind ≡ next = is-next v.kind (sym c.of.ensures.is ∙ c.in-Some.is ∙ ap Some c.in-Next.is) in
     record {
-      is = later_range (limits_of all c.args.limits) v c.if-vote-lt1.false c.if-vote-limits.false c.if-vote-limits-2.false
-          (value_below x.limbs x.four x.fit) c.is-later-step.result c.is-later-step.ensures.is
+      is = later_range (limits_of all c.args.limits) v c.if-vote-lt1.false c.if-vote_limits.false c.if-vote_limits-2.false
+          (value_below x.limbs x.four x.fit) c.is_later_step.result c.is_later_step.ensures.is
           (omega (arith, kind)) (omega (arith, kind)) (λ h. absurd (omega (arith, kind, h)));
     }
 
-pub returns-then-not-is-zero : goal.returns-then-not-is-zero
-returns-then-not-is-zero c =
+pub returns-then-not-is_zero : goal.returns-then-not-is_zero
+returns-then-not-is_zero c =
     let v : Vote = vote_of c.args.vote in
     let kind : v.kind ≡ next_none =
     is-next_none v.kind (sym c.of.ensures.is ∙ c.in-Some.is ∙ ap Some c.in-NextNone.is) in
-    record { is = not_in_range _ v (λ r. eqb-false v.value 0 (sym c.is-zero.ensures.is ∙ c.if-not-is-zero.true) ((ranged _ v r).no_value kind)) }
+    record { is = not_in_range _ v (λ r. eqb-false v.value 0 (sym c.is_zero.ensures.is ∙ c.if-not-is_zero.true) ((ranged _ v r).no_value kind)) }
 
-pub returns-else-not-is-zero : goal.returns-else-not-is-zero
-returns-else-not-is-zero c =
+pub returns-else-not-is_zero : goal.returns-else-not-is_zero
+returns-else-not-is_zero c =
     let v : Vote = vote_of c.args.vote in
     let x = c.args.vote.value in
     let kind : v.kind ≡ next_none =
     is-next_none v.kind (sym c.of.ensures.is ∙ c.in-Some.is ∙ ap Some c.in-NextNone.is) in
     record {
-      is = later_range (limits_of all c.args.limits) v c.if-vote-lt1.false c.if-vote-limits.false c.if-vote-limits-2.false
-          (value_below x.limbs x.four x.fit) c.is-later-step-in-NextNone.result c.is-later-step-in-NextNone.ensures.is
-          (omega (arith, kind)) (omega (arith, kind)) (λ h. eqb-true v.value 0 (sym c.is-zero.ensures.is ∙ c.if-not-is-zero.false));
+      is = later_range (limits_of all c.args.limits) v c.if-vote-lt1.false c.if-vote_limits.false c.if-vote_limits-2.false
+          (value_below x.limbs x.four x.fit) c.is_later_step-in-NextNone.result c.is_later_step-in-NextNone.ensures.is
+          (omega (arith, kind)) (omega (arith, kind)) (λ h. eqb-true v.value 0 (sym c.is_zero.ensures.is ∙ c.if-not-is_zero.false));
     }

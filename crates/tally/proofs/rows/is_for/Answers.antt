@@ -7,6 +7,6 @@ pub returns : goal.returns
 unfolding is_only
 returns c = record { is = c.eq.ensures ∙ ap (is_only (number_of c.args.value.limbs)) c.in-Some.ensures.is }
 
-pub returns-in-default : goal.returns-in-default
+pub returns-in_default : goal.returns-in_default
 unfolding is_only
-returns-in-default c = record { is = ap (is_only (number_of c.args.value.limbs)) c.in-default.ensures.is }
+returns-in_default c = record { is = ap (is_only (number_of c.args.value.limbs)) c.in_default.ensures.is }

@@ -13,9 +13,9 @@ number v = number_of v.limbs
 pub loop-from-init : goal.loop-from-init
 loop-from-init c = leads_none c.args.votes.now c.args.row (number_of c.zero-candidate.result.limbs)
 
-pub loop-from-preserved-in-default : goal.loop-from-preserved-in-default
-loop-from-preserved-in-default c =
-    leads_empty c.args.votes.now c.args.row _ _ _ c.loop-from.invariant c.in-default.ensures.is
+pub loop-from-preserved-in_default : goal.loop-from-preserved-in_default
+loop-from-preserved-in_default c =
+    leads_empty c.args.votes.now c.args.row _ _ _ c.loop-from.invariant c.in_default.ensures.is
 
 pub loop-from-preserved : goal.loop-from-preserved
 unfolding number

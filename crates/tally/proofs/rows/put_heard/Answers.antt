@@ -4,10 +4,10 @@ use Rattle.tally.proofs.rows.put_heard.Goals as goal
 pub returns : goal.returns
 returns c =
     let part = c.args.votes.now in
-    let now = c.put-value.new.part in
+    let now = c.put_value.new.part in
     record {
-      is = heard_written part now c.args.at _ c.requires.within c.put-value.ensures.only
-          c.put-value.ensures.is;
-      only = heard_only part now c.args.at _ c.requires.within c.put-value.ensures.only
-          c.put-value.ensures.is;
+      is = heard_written part now c.args.at _ c.requires.within c.put_value.ensures.only
+          c.put_value.ensures.is;
+      only = heard_only part now c.args.at _ c.requires.within c.put_value.ensures.only
+          c.put_value.ensures.is;
     }

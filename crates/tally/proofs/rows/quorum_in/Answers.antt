@@ -5,7 +5,7 @@ use Rattle.protocol.specs.Vote.{quorum}
 use Rattle.tally.specs.Votes.{row_count}
 use Rattle.tally.proofs.Counting.{row-none, row_yes, row_no, row_grows}
 use Rattle.tally.proofs.rows.quorum_in.Goals as goal
-use Rattle.tally.proofs.rows.quorum_in.Goals.{then-is-for+else-count-quorum, else-is-for, else-votes-test, then-votes-test+then-is-for+then-count-quorum}
+use Rattle.tally.proofs.rows.quorum_in.Goals.{then-is_for+else-count-quorum, else-is_for, else-votes-test, then-votes-test+then-is_for+then-count-quorum}
 
 pub votes-init : goal.votes-init
 votes-init c =
@@ -15,12 +15,12 @@ pub votes-preserved : goal.votes-preserved
 votes-preserved c =
     let part = c.args.votes.now in
     let x = number_of c.args.value.limbs in
-    elim c.if-is-for.branch [
-      | then-is-for+else-count-quorum w ↦
-          let more = row_yes part c.args.row c.votes.from x w.if-is-for.ensures.is in
+    elim c.if-is_for.branch [
+      | then-is_for+else-count-quorum w ↦
+          let more = row_yes part c.args.row c.votes.from x w.if-is_for.ensures.is in
           (omega (arith, more, w.count-is), omega (arith, w.count-is, w.if-count-quorum.false))
-      | else-is-for w ↦
-          let same = row_no part c.args.row c.votes.from x w.if-is-for.ensures.is in
+      | else-is_for w ↦
+          let same = row_no part c.args.row c.votes.from x w.if-is_for.ensures.is in
           (omega (arith, same, w.count-is), omega (arith, w.count-is))
     ]
 
@@ -40,8 +40,8 @@ returns c =
             is = lt-leb _ _ (omega (arith, w.count-is))
                 ∙ sym (lt-leb (quorum members) _ (omega (arith, q, count)));
           }
-      | then-votes-test+then-is-for+then-count-quorum w ↦
-          let more = row_yes part row c.votes.from x w.if-is-for.ensures.is in
+      | then-votes-test+then-is_for+then-count-quorum w ↦
+          let more = row_yes part row c.votes.from x w.if-is_for.ensures.is in
           let grows = row_grows part row (c.votes.from + 1) members x (omega (arith, w.votes-test.true)) in
           record {
             is = le-leb _ _ (omega (arith, w.count-is, w.if-count-quorum.true))

@@ -14,7 +14,7 @@ returns c =
     let x = value_of v.vote.value in
     record {
       is = λ vs h.
-          c.count-in.ensures.is
+          c.count_in.ensures.is
           ∙ ap (λ n. row_count part n v.limits.members x) c.row.ensures.is
           ∙ sym (count-row l part vs h _ _ _ x (slot_good l (valid_vote v) v.in_range));
     }

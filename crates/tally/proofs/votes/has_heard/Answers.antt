@@ -14,8 +14,8 @@ returns c =
           ∙ heard_voted v vs h.different;
     }
 
-pub returns-in-default : goal.returns-in-default
+pub returns-in_default : goal.returns-in_default
 unfolding is_only
-returns-in-default c =
+returns-in_default c =
     let v = valid_vote c.args.vote in
-    record { is = λ vs h. ap (is_only v.value) (c.in-default.ensures.is vs h) ∙ heard_voted v vs h.different }
+    record { is = λ vs h. ap (is_only v.value) (c.in_default.ensures.is vs h) ∙ heard_voted v vs h.different }

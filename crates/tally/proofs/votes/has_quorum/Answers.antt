@@ -15,7 +15,7 @@ returns c =
     let x = value_of v.vote.value in
     record {
       is = λ vs h.
-          c.quorum-in.ensures.is
+          c.quorum_in.ensures.is
           ∙ ap (λ n. leb (quorum v.limits.members) (row_count part n v.limits.members x)) c.row.ensures.is
           ∙ sym (quorum-row l part vs h _ _ _ x (slot_good l (valid_vote v) v.in_range));
     }

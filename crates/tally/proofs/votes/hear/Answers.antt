@@ -10,12 +10,12 @@ returns c =
     let l = vote_limits c.args.vote in
     let v = valid_vote c.args.vote in
     let part = c.args.votes.now in
-    let now = c.put-heard.new.votes in
+    let now = c.put_heard.new.votes in
     let at = c.entry.ensures.is in
     let is : heard_at now (entry_of l v) ≡ v.value ∷ [] =
-    subst (λ (e : ℕ). heard_at now e ≡ v.value ∷ []) at c.put-heard.ensures.is in
+    subst (λ (e : ℕ). heard_at now e ≡ v.value ∷ []) at c.put_heard.ensures.is in
     let only : Only (8 * entry_of l v) (8 * entry_of l v + 5) part now =
-    subst (λ (e : ℕ). Only (8 * e) (8 * e + 5) part now) at c.put-heard.ensures.only in
+    subst (λ (e : ℕ). Only (8 * e) (8 * e + 5) part now) at c.put_heard.ensures.only in
     record {
       is = λ vs h free. holds_more l part now v vs h c.args.vote.in_range free is
           (λ e other. same_heard part now e (entry_of l v) only other);

@@ -14,43 +14,43 @@ fits_in : (bs : List ℕ) (r : Result Answer ℕ) → ((i : ℕ) → Fits w8 (ge
     IfOk r (λ a. sayable a ≡ true)
 fits_in bs r typed is = answer_fits bs r (under_by_places 256 bs (λ i. (typed i).fits)) is
 
-pub returns-then-is-empty : goal.returns-then-is-empty
+pub returns-then-is_empty : goal.returns-then-is_empty
 unfolding answer_in
-returns-then-is-empty c =
-    record { is = sym (cond-true _ _ _ (sym c.if-is-empty.ensures)); fits = tt }
+returns-then-is_empty c =
+    record { is = sym (cond-true _ _ _ (sym c.if-is_empty.ensures)); fits = tt }
 
-pub returns-in-err-reaches : goal.returns-in-err-reaches
-returns-in-err-reaches c =
+pub returns-in_err-reaches : goal.returns-in_err-reaches
+returns-in_err-reaches c =
     let bs = c.args.bytes.now in
-    let at = answer_broken bs 0 _ (sym c.if-is-empty.ensures) c.in-0.is refl in
+    let at = answer_broken bs 0 _ (sym c.if-is_empty.ensures) c.in-0.is refl in
     let from = c.from-residual in
-    let is = at _ from.result c.in-err-reaches.ensures.is from.ensures.1 in
-    record { is = is; fits = fits_in bs _ c.type-inv.bytes is }
+    let is = at _ from.result c.in_err-reaches.ensures.is from.ensures.1 in
+    record { is = is; fits = fits_in bs _ c.type_inv.bytes is }
 
-pub returns-in-ok-reaches : goal.returns-in-ok-reaches
-returns-in-ok-reaches c =
+pub returns-in_ok-reaches : goal.returns-in_ok-reaches
+returns-in_ok-reaches c =
     let bs = c.args.bytes.now in
-    let at = answer-long bs 0 _ (sym c.if-is-empty.ensures) c.in-0.is refl in
-    let is = c.read-refused.ensures.is ∙ at _ c.in-ok-reaches.ensures.is in
-    record { is = is; fits = fits_in bs _ c.type-inv.bytes is }
+    let at = answer-long bs 0 _ (sym c.if-is_empty.ensures) c.in-0.is refl in
+    let is = c.read_refused.ensures.is ∙ at _ c.in_ok-reaches.ensures.is in
+    record { is = is; fits = fits_in bs _ c.type_inv.bytes is }
 
-pub returns-in-err-reaches-2 : goal.returns-in-err-reaches-2
-returns-in-err-reaches-2 c =
+pub returns-in_err-reaches-2 : goal.returns-in_err-reaches-2
+returns-in_err-reaches-2 c =
     let bs = c.args.bytes.now in
-    let at = answer_broken bs 1 _ (sym c.if-is-empty.ensures) c.in-1.is refl in
-    let from = c.from-residual-in-err-reaches-2 in
-    let is = at _ from.result c.in-err-reaches-2.ensures.is from.ensures.1 in
-    record { is = is; fits = fits_in bs _ c.type-inv.bytes is }
+    let at = answer_broken bs 1 _ (sym c.if-is_empty.ensures) c.in-1.is refl in
+    let from = c.from-residual-in_err-reaches-2 in
+    let is = at _ from.result c.in_err-reaches-2.ensures.is from.ensures.1 in
+    record { is = is; fits = fits_in bs _ c.type_inv.bytes is }
 
-pub returns-in-ok-reaches-2 : goal.returns-in-ok-reaches-2
-returns-in-ok-reaches-2 c =
+pub returns-in_ok-reaches-2 : goal.returns-in_ok-reaches-2
+returns-in_ok-reaches-2 c =
     let bs = c.args.bytes.now in
-    let at = answer-long bs 1 _ (sym c.if-is-empty.ensures) c.in-1.is refl in
-    let is = c.read-says.ensures.is ∙ at _ c.in-ok-reaches-2.ensures.is in
-    record { is = is; fits = fits_in bs _ c.type-inv.bytes is }
+    let at = answer-long bs 1 _ (sym c.if-is_empty.ensures) c.in-1.is refl in
+    let is = c.read_says.ensures.is ∙ at _ c.in_ok-reaches-2.ensures.is in
+    record { is = is; fits = fits_in bs _ c.type_inv.bytes is }
 
-pub returns-in-default : goal.returns-in-default
-returns-in-default c =
+pub returns-in_default : goal.returns-in_default
+returns-in_default c =
     let bs = c.args.bytes.now in
     let other : 1 < get_or bs 0 0 = omega arith in
-    record { is = sym (answer_at bs _ (sym c.if-is-empty.ensures) refl ∙ answer-rest bs _ other); fits = tt }
+    record { is = sym (answer_at bs _ (sym c.if-is_empty.ensures) refl ∙ answer-rest bs _ other); fits = tt }

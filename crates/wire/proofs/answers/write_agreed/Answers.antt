@@ -18,5 +18,5 @@ returns-in-Some c =
     let long = c.requires ∙ ap (λ o. 1 + 32 * length (agreed_of o)) c.in-Some.is in
     let bytes = ap (λ o. agreed_bytes (agreed_of o)) c.in-Some.is in
     let first = front_byte was 1 (omega arith) in
-    let value = front_more was 1 _ _ first 32 _ _ (length_digits 256 32 _) c.write-value.ensures.is in
+    let value = front_more was 1 _ _ first 32 _ _ (length_digits 256 32 _) c.write_value.ensures.is in
     record { is = front-all was 33 _ _ value (omega arith) ∙ sym bytes }

@@ -10,29 +10,29 @@ use Rattle.wire.proofs.AnswersBack.{answer_written_back, held-refusal_fits}
 use Rattle.wire.proofs.Writing.{wrote, no_room}
 use Rattle.wire.proofs.answers.write_answer.Goals as goal
 
-pub returns-in-err-room : goal.returns-in-err-room
-returns-in-err-room c =
+pub returns-in_err-room : goal.returns-in_err-room
+returns-in_err-room c =
     let long = ap (λ a. length (answer_bytes (answer_of a))) c.in-Refused.is ∙ ap suc (simp (length-append, length_digits)) in
     let err = c.from-residual.ensures in
     record {
-      is = no_room _ _ 17 _ c.from-residual.result long c.in-err-room.ensures.is err.1;
+      is = no_room _ _ 17 _ c.from-residual.result long c.in_err-room.ensures.is err.1;
       back = IfOk-from_err c.from-residual.result _ err.0;
     }
 
-pub returns-in-ok-room : goal.returns-in-ok-room
-returns-in-ok-room c =
+pub returns-in_ok-room : goal.returns-in_ok-room
+returns-in_ok-room c =
     let was = c.args.out.now in
     let bytes = ap (λ a. answer_bytes (answer_of a)) c.in-Refused.is in
-    let room = c.in-ok-room.ensures.is in
+    let room = c.in_ok-room.ensures.is in
     let first = front_byte was 0 (omega (arith, room)) in
-    let number = c.write-number.ensures.is ∙ ap (le_bytes 8) c.number.ensures.is in
+    let number = c.write_number.ensures.is ∙ ap (le_bytes 8) c.number.ensures.is in
     let why = front_more was 1 _ _ first 8 _ _ (length_digits 256 8 _) number in
-    let place = front_more was 9 _ _ why 8 _ _ (length_digits 256 8 _) c.write-number-in-Refused.ensures.is in
+    let place = front_more was 9 _ _ why 8 _ _ (length_digits 256 8 _) c.write_number-in-Refused.ensures.is in
     let done = wrote _ _ was _ 17 bytes place room in
-    let fit = ap (λ a. sayable (answer_of a)) c.in-Refused.is ∙ held-refusal_fits _ _ c.write-number-in-Refused.ensures.fits in
+    let fit = ap (λ a. sayable (answer_of a)) c.in-Refused.is ∙ held-refusal_fits _ _ c.write_number-in-Refused.ensures.fits in
     record { is = done; back = answer_written_back _ was _ (Ok 17) fit done }
 
 pub returns-in-Says : goal.returns-in-Says
 returns-in-Says c =
-    let said = c.write-says.ensures in
+    let said = c.write_says.ensures in
     rw c.in-Says.is (record { is = said.is; back = answer_written_back _ _ _ _ said.fits said.is })

@@ -12,76 +12,76 @@ fits_in : (bs : List ℕ) (e : Event) → ((i : ℕ) → Fits w8 (get_or bs i 0)
     readable e ≡ true
 fits_in bs e typed short is = rw is (event_fits bs (under_by_places 256 bs (λ i. (typed i).fits)) short)
 
-pub returns-then-is-empty : goal.returns-then-is-empty
+pub returns-then-is_empty : goal.returns-then-is_empty
 unfolding event_in
-returns-then-is-empty c =
+returns-then-is_empty c =
     let bs = c.args.bytes.now in
-    let is : unreadable 0 ≡ event_in bs = sym (cond-true _ _ _ (sym c.if-is-empty.ensures)) in
-    record { is = is; fits = fits_in bs _ c.type-inv.bytes (omega arith) is }
+    let is : unreadable 0 ≡ event_in bs = sym (cond-true _ _ _ (sym c.if-is_empty.ensures)) in
+    record { is = is; fits = fits_in bs _ c.type_inv.bytes (omega arith) is }
 
-pub returns-in-err-whole : goal.returns-in-err-whole
-returns-in-err-whole c =
+pub returns-in_err-whole : goal.returns-in_err-whole
+returns-in_err-whole c =
     let bs = c.args.bytes.now in
-    let at = event_broken bs 0 65 _ (sym c.if-is-empty.ensures) c.in-0.is refl in
+    let at = event_broken bs 0 65 _ (sym c.if-is_empty.ensures) c.in-0.is refl in
     let from = c.from-residual in
-    let is = at _ from.result c.in-err-whole.ensures.is from.ensures.1 in
-    record { is = is; fits = fits_in bs _ c.type-inv.bytes (omega arith) is }
+    let is = at _ from.result c.in_err-whole.ensures.is from.ensures.1 in
+    record { is = is; fits = fits_in bs _ c.type_inv.bytes (omega arith) is }
 
-pub returns-in-err-whole-2 : goal.returns-in-err-whole-2
-returns-in-err-whole-2 c =
+pub returns-in_err-whole-2 : goal.returns-in_err-whole-2
+returns-in_err-whole-2 c =
     let bs = c.args.bytes.now in
-    let at = event_broken bs 1 49 _ (sym c.if-is-empty.ensures) c.in-1.is refl in
-    let from = c.from-residual-in-err-whole-2 in
-    let is = at _ from.result c.in-err-whole-2.ensures.is from.ensures.1 in
-    record { is = is; fits = fits_in bs _ c.type-inv.bytes (omega arith) is }
+    let at = event_broken bs 1 49 _ (sym c.if-is_empty.ensures) c.in-1.is refl in
+    let from = c.from-residual-in_err-whole-2 in
+    let is = at _ from.result c.in_err-whole-2.ensures.is from.ensures.1 in
+    record { is = is; fits = fits_in bs _ c.type_inv.bytes (omega arith) is }
 
-pub returns-in-err-whole-3 : goal.returns-in-err-whole-3
-returns-in-err-whole-3 c =
+pub returns-in_err-whole-3 : goal.returns-in_err-whole-3
+returns-in_err-whole-3 c =
     let bs = c.args.bytes.now in
-    let at = event_broken bs 2 33 _ (sym c.if-is-empty.ensures) c.in-2.is refl in
-    let from = c.from-residual-in-err-whole-3 in
-    let is = at _ from.result c.in-err-whole-3.ensures.is from.ensures.1 in
-    record { is = is; fits = fits_in bs _ c.type-inv.bytes (omega arith) is }
+    let at = event_broken bs 2 33 _ (sym c.if-is_empty.ensures) c.in-2.is refl in
+    let from = c.from-residual-in_err-whole-3 in
+    let is = at _ from.result c.in_err-whole-3.ensures.is from.ensures.1 in
+    record { is = is; fits = fits_in bs _ c.type_inv.bytes (omega arith) is }
 
-pub returns-in-err-whole-4 : goal.returns-in-err-whole-4
-returns-in-err-whole-4 c =
+pub returns-in_err-whole-4 : goal.returns-in_err-whole-4
+returns-in_err-whole-4 c =
     let bs = c.args.bytes.now in
-    let at = event_broken bs 3 1 _ (sym c.if-is-empty.ensures) c.in-3.is refl in
-    let from = c.from-residual-in-err-whole-4 in
-    let is = at _ from.result c.in-err-whole-4.ensures.is from.ensures.1 in
-    record { is = is; fits = fits_in bs _ c.type-inv.bytes (omega arith) is }
+    let at = event_broken bs 3 1 _ (sym c.if-is_empty.ensures) c.in-3.is refl in
+    let from = c.from-residual-in_err-whole-4 in
+    let is = at _ from.result c.in_err-whole-4.ensures.is from.ensures.1 in
+    record { is = is; fits = fits_in bs _ c.type_inv.bytes (omega arith) is }
 
-pub returns-in-ok-whole : goal.returns-in-ok-whole
-returns-in-ok-whole c =
+pub returns-in_ok-whole : goal.returns-in_ok-whole
+returns-in_ok-whole c =
     let bs = c.args.bytes.now in
-    let at = event_whole bs 0 65 _ (sym c.if-is-empty.ensures) c.in-0.is refl in
-    let is = ap got_vote c.read-vote.ensures.is ∙ at _ c.in-ok-whole.ensures.is in
-    record { is = is; fits = fits_in bs _ c.type-inv.bytes (omega arith) is }
+    let at = event_whole bs 0 65 _ (sym c.if-is_empty.ensures) c.in-0.is refl in
+    let is = ap got_vote c.read_vote.ensures.is ∙ at _ c.in_ok-whole.ensures.is in
+    record { is = is; fits = fits_in bs _ c.type_inv.bytes (omega arith) is }
 
-pub returns-in-ok-whole-2 : goal.returns-in-ok-whole-2
-returns-in-ok-whole-2 c =
+pub returns-in_ok-whole-2 : goal.returns-in_ok-whole-2
+returns-in_ok-whole-2 c =
     let bs = c.args.bytes.now in
-    let at = event_whole bs 1 49 _ (sym c.if-is-empty.ensures) c.in-1.is refl in
-    let is = ap got_proposal c.read-proposal.ensures.is ∙ at _ c.in-ok-whole-2.ensures.is in
-    record { is = is; fits = fits_in bs _ c.type-inv.bytes (omega arith) is }
+    let at = event_whole bs 1 49 _ (sym c.if-is_empty.ensures) c.in-1.is refl in
+    let is = ap got_proposal c.read_proposal.ensures.is ∙ at _ c.in_ok-whole-2.ensures.is in
+    record { is = is; fits = fits_in bs _ c.type_inv.bytes (omega arith) is }
 
-pub returns-in-ok-whole-3 : goal.returns-in-ok-whole-3
-returns-in-ok-whole-3 c =
+pub returns-in_ok-whole-3 : goal.returns-in_ok-whole-3
+returns-in_ok-whole-3 c =
     let bs = c.args.bytes.now in
-    let at = event_whole bs 2 33 _ (sym c.if-is-empty.ensures) c.in-2.is refl in
-    let is = ap got_block c.read-value.ensures.is ∙ at _ c.in-ok-whole-3.ensures.is in
-    record { is = is; fits = fits_in bs _ c.type-inv.bytes (omega arith) is }
+    let at = event_whole bs 2 33 _ (sym c.if-is_empty.ensures) c.in-2.is refl in
+    let is = ap got_block c.read_value.ensures.is ∙ at _ c.in_ok-whole-3.ensures.is in
+    record { is = is; fits = fits_in bs _ c.type_inv.bytes (omega arith) is }
 
-pub returns-in-ok-whole-4 : goal.returns-in-ok-whole-4
-returns-in-ok-whole-4 c =
+pub returns-in_ok-whole-4 : goal.returns-in_ok-whole-4
+returns-in_ok-whole-4 c =
     let bs = c.args.bytes.now in
-    let at = event_whole bs 3 1 _ (sym c.if-is-empty.ensures) c.in-3.is refl in
-    let is = at _ c.in-ok-whole-4.ensures.is in
-    record { is = is; fits = fits_in bs _ c.type-inv.bytes (omega arith) is }
+    let at = event_whole bs 3 1 _ (sym c.if-is_empty.ensures) c.in-3.is refl in
+    let is = at _ c.in_ok-whole-4.ensures.is in
+    record { is = is; fits = fits_in bs _ c.type_inv.bytes (omega arith) is }
 
-pub returns-in-default : goal.returns-in-default
-returns-in-default c =
+pub returns-in_default : goal.returns-in_default
+returns-in_default c =
     let bs = c.args.bytes.now in
     let other : 3 < get_or bs 0 0 = omega arith in
-    let is = sym (event_at bs _ (sym c.if-is-empty.ensures) refl ∙ event-rest bs _ other) in
-    record { is = is; fits = fits_in bs _ c.type-inv.bytes (omega arith) is }
+    let is = sym (event_at bs _ (sym c.if-is_empty.ensures) refl ∙ event-rest bs _ other) in
+    record { is = is; fits = fits_in bs _ c.type_inv.bytes (omega arith) is }

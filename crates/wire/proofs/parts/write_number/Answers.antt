@@ -5,6 +5,6 @@ use Rattle.wire.proofs.parts.write_number.Goals as goal
 pub returns : goal.returns
 returns c =
     record {
-      is = c.copy-from-slice.ensures.after ∙ c.to-le-bytes.ensures ∙ sym (word_bytes c.args.number);
+      is = c.copy_from_slice.ensures.after ∙ c.to_le_bytes.ensures ∙ sym (word_bytes c.args.number);
       fits = omega arith;
     }

@@ -9,10 +9,10 @@ pub returns : goal.returns
 unfolding proposal_bytes
 returns c =
     let was = c.args.part.now in
-    let period = front_more was 0 _ _ (front-none was) 8 _ _ (length_digits 256 8 _) c.write-number.ensures.is in
-    let rank = front_more was 8 _ _ period 8 _ _ (length_digits 256 8 _) c.write-number-2.ensures.is in
-    let value = front_more was 16 _ _ rank 32 _ _ (length_digits 256 32 _) c.write-value.ensures.is in
+    let period = front_more was 0 _ _ (front-none was) 8 _ _ (length_digits 256 8 _) c.write_number.ensures.is in
+    let rank = front_more was 8 _ _ period 8 _ _ (length_digits 256 8 _) c.write_number-2.ensures.is in
+    let value = front_more was 16 _ _ rank 32 _ _ (length_digits 256 32 _) c.write_value.ensures.is in
     record {
       is = front-all was 48 _ _ value (omega arith);
-      fits = held_proposal_fits c.args.proposal c.write-number.ensures.fits c.write-number-2.ensures.fits;
+      fits = held_proposal_fits c.args.proposal c.write_number.ensures.fits c.write_number-2.ensures.fits;
     }

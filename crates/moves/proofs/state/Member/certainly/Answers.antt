@@ -9,20 +9,20 @@ use Rattle.moves.proofs.Certainly.{certain-none, certain-says, first_said}
 use Rattle.moves.proofs.Standing.{heard}
 use Rattle.moves.proofs.state.Member.certainly.Goals as goal
 
-pub returns-in-default : goal.returns-in-default
-returns-in-default c =
+pub returns-in_default : goal.returns-in_default
+returns-in_default c =
     let x : code.Member = c.args.self in
     record {
       is = λ m h fresh.
-          let none : certainly (lim x) (silent m) ≡ silent m = certain-none (lim x) m (sym (c.in-default.ensures.is m h)) in
+          let none : certainly (lim x) (silent m) ≡ silent m = certain-none (lim x) m (sym (c.in_default.ensures.is m h)) in
           (subst (λ (d : Outcome). Stands x c.args.memory.now d.member) (sym none) h, sym (ap (λ (d : Outcome). d.out) none));
       only = λ q other. refl;
       same = record { limits = refl; me = refl };
       ranged = tt;
     }
 
-pub hear-vote-requires : goal.hear-vote-requires
-hear-vote-requires c =
+pub hear_vote-requires : goal.hear_vote-requires
+hear_vote-requires c =
     record {
       long = c.requires.long;
       vote = first_said c.args.self cert c.in-Some.value c.own_vote.result c.own_vote.ensures.fields (omega arith)
@@ -33,7 +33,7 @@ pub returns : goal.returns
 returns c =
     let x : code.Member = c.args.self in
     let mem : List ℕ = c.args.memory.now in
-    let new : List ℕ = c.hear-vote.new.memory in
+    let new : List ℕ = c.hear_vote.new.memory in
     let v : Vote = vote_of c.own_vote.result in
     let y : ℕ = value_of c.in-Some.value in
     record {
@@ -46,12 +46,12 @@ returns c =
           (certain-says (lim x) m y (sym h.step ∙ c.if-self-ne1.false) (sym h.certain ∙ c.if-self.false)
           (sym (c.in-Some.ensures.is m h))) in
           let now-heard : Stands x new (with_vote v m) =
-          heard x mem new m h v (c.hear-vote.ensures.is m.votes h.votes free) c.hear-vote.ensures.only in (
+          heard x mem new m h v (c.hear_vote.ensures.is m.votes h.votes free) c.hear_vote.ensures.only in (
             subst (λ (d : Outcome). Stands c.now_certain.result new d.member) (sym said)
                 (c.now_certain.ensures.is new (with_vote v m) now-heard),
             sym (ap (λ (d : Outcome). d.out) said),
           );
-      only = c.hear-vote.ensures.only;
+      only = c.hear_vote.ensures.only;
       same = c.now_certain.ensures.same;
       ranged = first_said x cert c.in-Some.value c.own_vote.result c.own_vote.ensures.fields (omega arith)
           (omega (arith, x.few_periods));

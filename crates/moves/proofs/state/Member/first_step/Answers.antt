@@ -11,42 +11,42 @@ use Rattle.moves.proofs.Saying.{soft-none, soft_one}
 use Rattle.moves.proofs.Standing.{same_long, same_only}
 use Rattle.moves.proofs.state.Member.first_step.Goals as goal
 
-pub returns-in-default : goal.returns-in-default
-returns-in-default c =
-    let y : code.Member = c.at-step-member.result in
+pub returns-in_default : goal.returns-in_default
+returns-in_default c =
+    let y : code.Member = c.at_step-member.result in
     record {
       is = λ m h free.
           let none : say_soft (soft_value m) (silent (at_step 1 m)) ≡ silent (at_step 1 m) =
-          soft-none m (sym (c.in-default.ensures.is m h)) in
+          soft-none m (sym (c.in_default.ensures.is m h)) in
           record {
             stands = subst (λ (d : Outcome). Stands y c.args.memory.now d.member) (sym none)
-                (c.at-step-member.ensures.is c.args.memory.now m h);
+                (c.at_step-member.ensures.is c.args.memory.now m h);
             out = sym (ap (λ (d : Outcome). d.out) none);
           };
       only = λ q other. refl;
-      same = c.at-step-member.ensures.same;
+      same = c.at_step-member.ensures.same;
     }
 
 pub say-vote-requires : goal.say-vote-requires
 say-vote-requires c =
     let x : code.Member = c.args.self in
-    let y : code.Member = c.at-step-member.result in
+    let y : code.Member = c.at_step-member.result in
     record {
-      long = same_long x y c.at-step-member.ensures.same (length c.args.memory.now) c.requires.long;
+      long = same_long x y c.at_step-member.ensures.same (length c.args.memory.now) c.requires.long;
       vote = range_test (lim y) _ (first_in_range y soft c.in-Some.value (omega arith)
-          (omega (arith, y.few_periods, c.at-step-member.ensures.step)));
+          (omega (arith, y.few_periods, c.at_step-member.ensures.step)));
     }
 
 pub returns : goal.returns
 returns c =
     let x : code.Member = c.args.self in
-    let y : code.Member = c.at-step-member.result in
+    let y : code.Member = c.at_step-member.result in
     let mem : List ℕ = c.args.memory.now in
     let new : List ℕ = c.say-vote.new.memory in
     let v : ℕ = value_of c.in-Some.value in
     record {
       is = λ m h free.
-          let there : Stands y mem (at_step 1 m) = c.at-step-member.ensures.is mem m h in
+          let there : Stands y mem (at_step 1 m) = c.at_step-member.ensures.is mem m h in
           let said : say_soft (soft_value m) (silent (at_step 1 m))
           ≡ record { member = with_vote (own m soft 0 v) (at_step 1 m); out = own m soft 0 v ∷ [] } =
           soft_one m v (sym (c.in-Some.ensures.is m h)) in
@@ -54,6 +54,6 @@ returns c =
             stands = subst (λ (d : Outcome). Stands y new d.member) (sym said) (c.say-vote.ensures.is (at_step 1 m) there (free v));
             out = ap (λ (w : Vote). w ∷ []) (c.say-vote.ensures.said (at_step 1 m) there) ∙ sym (ap (λ (d : Outcome). d.out) said);
           };
-      only = same_only x y c.at-step-member.ensures.same of-votes mem new c.say-vote.ensures.only;
-      same = c.at-step-member.ensures.same;
+      only = same_only x y c.at_step-member.ensures.same of-votes mem new c.say-vote.ensures.only;
+      same = c.at_step-member.ensures.same;
     }

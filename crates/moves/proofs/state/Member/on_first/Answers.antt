@@ -12,25 +12,25 @@ use Rattle.moves.proofs.state.Member.on_first.Goals as goal
 pub returns : goal.returns
 returns c =
     let x : Member = c.args.self in
-    let y₁ : Member = c.first-step-soft.result.0 in
+    let y₁ : Member = c.first_step-soft.result.0 in
     let y₂ : Member = c.certainly-cert.result.0 in
-    let y₃ : Member = c.agree-by-own-own.result in
-    let s₁ : Same x y₁ = c.first-step-soft.ensures.same in
+    let y₃ : Member = c.agree_by_own-own.result in
+    let s₁ : Same x y₁ = c.first_step-soft.ensures.same in
     let s₂ : Same x y₂ = same_twice x y₁ y₂ s₁ c.certainly-cert.ensures.same in
     let mem : List ℕ = c.args.memory.now in
-    let mid : List ℕ = c.first-step-soft.new.memory in
+    let mid : List ℕ = c.first_step-soft.new.memory in
     let new : List ℕ = c.certainly-cert.new.memory in
     let only : OnlyIn of-votes (lim x) mem new =
-    only_twice of-votes (lim x) mem mid new c.first-step-soft.ensures.only
+    only_twice of-votes (lim x) mem mid new c.first_step-soft.ensures.only
     (same_only x y₁ s₁ of-votes mid new c.certainly-cert.ensures.only) in
     record {
       is = λ m h ready.
           let step : m.step ≡ 0 = sym h.step ∙ c.requires.first in
           let done : Did y₃ new _ _ =
-          first_done x y₁ y₂ y₃ (same_lim x y₁ s₁) (same_lim x y₂ s₂) mid new c.first-step-soft.result.1 c.certainly-cert.result.1
-          c.certainly-cert.ensures.is c.agree-by-own-own.ensures.is m ready step
-          (c.first-step-soft.ensures.is m h (λ v. ready.fresh.soft_slot v step)) in
+          first_done x y₁ y₂ y₃ (same_lim x y₁ s₁) (same_lim x y₂ s₂) mid new c.first_step-soft.result.1 c.certainly-cert.result.1
+          c.certainly-cert.ensures.is c.agree_by_own-own.ensures.is m ready step
+          (c.first_step-soft.ensures.is m h (λ v. ready.fresh.soft_slot v step)) in
           record { stands = done.stands; out = c.said.ensures.is ∙ done.out };
       only = record { header = only of-header refl; rest = only of-rest refl };
-      same = same_twice x y₂ y₃ s₂ c.agree-by-own-own.ensures.same;
+      same = same_twice x y₂ y₃ s₂ c.agree_by_own-own.ensures.same;
     }

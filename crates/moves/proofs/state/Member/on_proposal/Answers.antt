@@ -15,12 +15,12 @@ unfolding does
 returns c =
     let x : Member = c.args.self in
     let mem : List ℕ = c.args.memory.now in
-    let new : List ℕ = c.keep-proposal.new.memory in
-    let only = c.keep-proposal.ensures.only in
+    let new : List ℕ = c.keep_proposal.new.memory in
+    let only = c.keep_proposal.ensures.only in
     record {
       is = λ m h ready. record {
         stands = kept_best x mem new m h (keep_best (proposal_of c.args.proposal) m.proposals)
-            (c.keep-proposal.ensures.is m.proposals h.proposals) only;
+            (c.keep_proposal.ensures.is m.proposals h.proposals) only;
         out = refl;
       };
       only = record { header = only of-header refl; rest = only of-rest refl };

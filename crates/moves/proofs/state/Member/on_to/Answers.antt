@@ -13,8 +13,8 @@ overflow-add-vote c =
     let r : Ranged (lim c.args.self) (vote_of c.args.vote) = ranged _ _ c.requires.vote in
     omega (arith, r.periods)
 
-pub in-period-requires : goal.in-period-requires
-in-period-requires c =
+pub in_period-requires : goal.in_period-requires
+in_period-requires c =
     let r : Ranged (lim c.args.self) (vote_of c.args.vote) = ranged _ _ c.requires.vote in
     record { some_period = omega (arith, r.periods); few_periods = omega (arith, r.periods) }
 
@@ -28,14 +28,14 @@ returns-then-vote-self c =
       same = record { limits = refl; me = refl };
     }
 
-pub returns-then-not-is-quorum : goal.returns-then-not-is-quorum
-returns-then-not-is-quorum c =
+pub returns-then-not-is_quorum : goal.returns-then-not-is_quorum
+returns-then-not-is_quorum c =
     let x = c.args.self in
     let v : Vote = vote_of c.args.vote in
     record {
       is = λ m h. subst (λ (y : OfMember). Stands x c.args.memory.now y)
           (sym (on_to-few (lim x) v (listed c.args.start) c.args.free m
-          (sym (c.is-quorum.ensures.is m.votes h.votes) ∙ c.if-not-is-quorum.true))) h;
+          (sym (c.is_quorum.ensures.is m.votes h.votes) ∙ c.if-not-is_quorum.true))) h;
       same = record { limits = refl; me = refl };
     }
 
@@ -46,7 +46,7 @@ returns c =
     record {
       is = λ m h. subst (λ (y : OfMember). Stands c.in_period.result c.args.memory.now y)
           (sym (on_to_goes (lim x) v (listed c.args.start) c.args.free m (omega (arith, c.if-vote-self.false, h.period))
-          (sym (c.is-quorum.ensures.is m.votes h.votes) ∙ c.if-not-is-quorum.false)))
+          (sym (c.is_quorum.ensures.is m.votes h.votes) ∙ c.if-not-is_quorum.false)))
           (c.in_period.ensures.is c.args.memory.now m h);
       same = c.in_period.ensures.same;
     }

@@ -17,26 +17,26 @@ returns c =
     let x : Member = c.args.self in
     let y₁ : Member = c.onward-after.result in
     let y₂ : Member = c.certainly-cert.result.0 in
-    let y₃ : Member = c.agree-by-own-own.result in
-    let y₄ : Member = c.agree-by-agreed.result in
+    let y₃ : Member = c.agree_by_own-own.result in
+    let y₄ : Member = c.agree_by-agreed.result in
     let s₁ : Same x y₁ = c.onward-after.ensures.same in
     let s₂ : Same x y₂ = same_twice x y₁ y₂ s₁ c.certainly-cert.ensures.same in
-    let s₃ : Same x y₃ = same_twice x y₂ y₃ s₂ c.agree-by-own-own.ensures.same in
+    let s₃ : Same x y₃ = same_twice x y₂ y₃ s₂ c.agree_by_own-own.ensures.same in
     let mem : List ℕ = c.args.memory.now in
-    let mid : List ℕ = c.hear-vote.new.memory in
+    let mid : List ℕ = c.hear_vote.new.memory in
     let new : List ℕ = c.certainly-cert.new.memory in
     let v : Vote = vote_of c.args.vote in
     let only : OnlyIn of-votes (lim x) mem new =
-    only_twice of-votes (lim x) mem mid new c.hear-vote.ensures.only
+    only_twice of-votes (lim x) mem mid new c.hear_vote.ensures.only
     (same_only x y₁ s₁ of-votes mid new c.certainly-cert.ensures.only) in
     record {
       is = λ m h ready free other.
           let done : Did y₄ new _ _ =
           vote_done x y₁ y₂ y₃ y₄ (same_lim x y₁ s₁) (same_lim x y₂ s₂) (same_lim x y₃ s₃) mid new c.certainly-cert.result.1 v
-          c.onward-after.ensures.is c.certainly-cert.ensures.is c.agree-by-own-own.ensures.is
-          c.agree-by-agreed.ensures.is m ready other
-          (heard x mem mid m h v (c.hear-vote.ensures.is m.votes h.votes free) c.hear-vote.ensures.only) in
+          c.onward-after.ensures.is c.certainly-cert.ensures.is c.agree_by_own-own.ensures.is
+          c.agree_by-agreed.ensures.is m ready other
+          (heard x mem mid m h v (c.hear_vote.ensures.is m.votes h.votes free) c.hear_vote.ensures.only) in
           record { stands = done.stands; out = c.said.ensures.is ∙ done.out };
       only = record { header = only of-header refl; rest = only of-rest refl };
-      same = same_twice x y₃ y₄ s₃ c.agree-by-agreed.ensures.same;
+      same = same_twice x y₃ y₄ s₃ c.agree_by-agreed.ensures.same;
     }

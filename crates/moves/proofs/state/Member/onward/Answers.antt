@@ -10,9 +10,9 @@ use Rattle.tally.proofs.KindOf.{is-next, is-next_none, soft_first, cert_first, s
 use Rattle.moves.proofs.Onward.{onward-stays, onward-next, onward-none}
 use Rattle.moves.proofs.state.Member.onward.Goals as goal
 
-pub returns-in-default : goal.returns-in-default
-returns-in-default c =
-    absurd (some_kind c.args.vote.kind (ranged _ _ c.requires.vote).kinds (sym c.of.ensures.is ∙ c.in-default.is))
+pub returns-in_default : goal.returns-in_default
+returns-in_default c =
+    absurd (some_kind c.args.vote.kind (ranged _ _ c.requires.vote).kinds (sym c.of.ensures.is ∙ c.in_default.is))
 
 pub returns-in-Soft : goal.returns-in-Soft
 returns-in-Soft c =
@@ -44,8 +44,8 @@ returns-in-NextNone c =
     let x : Member = c.args.self in
     let v : Vote = vote_of c.args.vote in
     record {
-      is = λ m h. subst (λ (y : OfMember). Stands c.on-to-in-NextNone.result c.args.memory.now y)
+      is = λ m h. subst (λ (y : OfMember). Stands c.on_to-in-NextNone.result c.args.memory.now y)
           (sym (onward-none (lim x) v m (is-next_none v.kind (sym c.of.ensures.is ∙ c.in-Some.is ∙ ap Some c.in-NextNone.is))))
-          (c.on-to-in-NextNone.ensures.is m h);
-      same = c.on-to-in-NextNone.ensures.same;
+          (c.on_to-in-NextNone.ensures.is m h);
+      same = c.on_to-in-NextNone.ensures.same;
     }

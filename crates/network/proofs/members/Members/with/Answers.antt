@@ -9,8 +9,8 @@ returns c = record {
   same = λ h. absurd (omega arith);
 }
 
-pub invariant-of-result : goal.invariant-of-result
-invariant-of-result c = (
+pub invariant_of-result : goal.invariant_of-result
+invariant_of-result c = (
   or_lt 64 c.args.self.bits ((1 * 2 ^ c.args.member) % 2 ^ 64) c.args.self.word
       (mod-lt _ (pow_pos 64)),
   tt,

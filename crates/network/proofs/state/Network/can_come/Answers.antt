@@ -28,7 +28,7 @@ returns c =
           (sym c.has.ensures.is ∙ c.if-has.false)
           (subst (λ (part : List ℕ). BySaid part v (Ok c.in-Ok.said))
           (span_is _ _ _ _ _ _ c.span-start.ensures.start c.span-start.ensures.size
-          c.as-slice-all.ensures.value)
+          c.as_slice-all.ensures.value)
           c.in-Ok.ensures.is);
     }
 
@@ -40,5 +40,5 @@ unreachable-requires c =
     (sym c.has.ensures.is ∙ c.if-has.false)
     (subst IsNotOpen
     (span_is _ _ _ _ _ _ c.span-start.ensures.start c.span-start.ensures.size
-    c.as-slice-all.ensures.value)
+    c.as_slice-all.ensures.value)
     c.in-Err.ensures.is)

@@ -9,25 +9,25 @@ use Rattle.network.proofs.Delivering.{at_span, called-there, only-there, runs_th
 use Rattle.network.proofs.Showing.{open_there}
 use Rattle.network.proofs.state.Network.deliver.Goals as goal
 
-pub invariant-of-self : goal.invariant-of-self
-invariant-of-self c =
+pub invariant_of-self : goal.invariant_of-self
+invariant_of-self c =
     let l : Limits = limits_of all c.args.self.now.limits in
     let faulty : ℕ → Bool = has c.args.self.now.faulty.bits in
     let mem : List ℕ = vec_items c.args.self.now.memory in
-    let new : List ℕ = vec_items c.take-in.new.memory in (
+    let new : List ℕ = vec_items c.take_in.new.memory in (
       c.args.self.now.few,
       (
-        omega (arith, c.args.self.now.room, c.take-in.ensures.len),
+        omega (arith, c.args.self.now.room, c.take_in.ensures.len),
         (
           runs_then c.args.self.now.limits faulty mem new c.args.self.now.few c.args.self.now.runs
               c.args.to
               c.if-to-self.false (sym c.has.ensures.is ∙ c.if-has.false) (event_of c.args.event)
-              (sym c.can_happen.ensures.is ∙ c.if-not-can-happen.false)
+              (sym c.can_happen.ensures.is ∙ c.if-not-can_happen.false)
               (only-there l faulty c.args.to _ _ c.span-start.ensures.start c.span-start.ensures.size
-              mem new c.take-in.ensures.only)
-              c.take-in.result
+              mem new c.take_in.ensures.only)
+              c.take_in.result
               (called-there l faulty c.args.to _ _ c.span-start.ensures.start c.span-start.ensures.size
-              mem new _ _ c.take-in.ensures.is),
+              mem new _ _ c.take_in.ensures.is),
           tt,
         ),
       ),
@@ -49,16 +49,16 @@ returns c =
     let l : Limits = limits_of all c.args.self.now.limits in
     let faulty : ℕ → Bool = has c.args.self.now.faulty.bits in
     let mem : List ℕ = vec_items c.args.self.now.memory in
-    let new : List ℕ = vec_items c.take-in.new.memory in
+    let new : List ℕ = vec_items c.take_in.new.memory in
     record {
       is = delivered c.args.self.now.limits faulty mem new c.args.self.now.few c.args.self.now.runs
           c.args.to
           c.if-to-self.false (sym c.has.ensures.is ∙ c.if-has.false) (event_of c.args.event)
-          (sym c.can_happen.ensures.is ∙ c.if-not-can-happen.false)
+          (sym c.can_happen.ensures.is ∙ c.if-not-can_happen.false)
           (only-there l faulty c.args.to _ _ c.span-start.ensures.start c.span-start.ensures.size mem new
-          c.take-in.ensures.only) c.in-Ok.answer
+          c.take_in.ensures.only) c.in-Ok.answer
           (called-there l faulty c.args.to _ _ c.span-start.ensures.start c.span-start.ensures.size mem
           new _
           (Ok c.in-Ok.answer) c.in-Ok.ensures.is);
-      kept = (refl, (refl, c.take-in.ensures.len));
+      kept = (refl, (refl, c.take_in.ensures.len));
     }

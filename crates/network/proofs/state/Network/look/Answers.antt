@@ -12,7 +12,7 @@ use Rattle.network.proofs.state.Network.look.Goals as goal
 pub returns : goal.returns
 returns c =
     let there = span_is _ _ _ _ _ _ c.span-start.ensures.start c.span-start.ensures.size
-    c.as-slice-all.ensures.value in
+    c.as_slice-all.ensures.value in
     record {
       is = by_look (limits_of all c.args.self.now.limits) (has c.args.self.now.faulty.bits)
           (vec_items c.args.self.now.memory)

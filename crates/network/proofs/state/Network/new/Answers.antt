@@ -11,7 +11,7 @@ returns-then-limits-honest c = record {
   is = omega (
     arith,
     c.if-limits-honest.true,
-    c.others-below-honest.ensures.is,
+    c.others_below-honest.ensures.is,
     others
         (has c.args.faulty.bits) c.args.limits.members,
   );
@@ -23,34 +23,34 @@ returns-then-len-needed c = record {
     omega (
       arith,
       c.if-limits-honest.false,
-      c.others-below-honest.ensures.is,
+      c.others_below-honest.ensures.is,
       others (has c.args.faulty.bits)
           c.args.limits.members,
     ),
     (
       room_is (limits_of all c.args.limits) (has c.args.faulty.bits) _ _
-          c.others-below-honest.ensures.is c.memory.ensures.is,
+          c.others_below-honest.ensures.is c.memory.ensures.is,
       omega (arith, c.if-len-needed.true, c.len.ensures),
     ),
   );
 }
 
-pub invariant-of-result : goal.invariant-of-result
-invariant-of-result c =
+pub invariant_of-result : goal.invariant_of-result
+invariant_of-result c =
     let room = room_is (limits_of all c.args.limits) (has c.args.faulty.bits) _ _
-    c.others-below-honest.ensures.is c.memory.ensures.is in (
+    c.others_below-honest.ensures.is c.memory.ensures.is in (
       omega (
         arith,
         c.if-limits-honest.false,
-        c.others-below-honest.ensures.is,
+        c.others_below-honest.ensures.is,
         others
             (has c.args.faulty.bits) c.args.limits.members,
       ),
       (
-        omega (arith, room, c.if-len-needed.false, c.len.ensures, c.open-all.ensures.len),
+        omega (arith, room, c.if-len-needed.false, c.len.ensures, c.open_all.ensures.len),
         (
           ∣ begins (limits_of all c.args.limits) (has c.args.faulty.bits)
-              (vec_items c.open-all.new.memory) c.open-all.ensures.is ∣₁,
+              (vec_items c.open_all.new.memory) c.open_all.ensures.is ∣₁,
           tt,
         ),
       ),

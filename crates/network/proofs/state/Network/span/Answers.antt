@@ -10,21 +10,21 @@ use Rattle.network.proofs.state.Network.span.Goals as goal
 
 pub overflow-add-result : goal.overflow-add-result
 overflow-add-result c =
-    let small : c.others-below.result * c.memory_size.result + c.memory_size.result ≤ 19256640 =
-    rw c.memory_size.ensures.is (span_fits c.args.self.now.limits c.others-below.result
-    (omega (arith, c.others-below.ensures.few, c.requires.member, c.args.self.now.limits.few_members))) in
+    let small : c.others_below.result * c.memory_size.result + c.memory_size.result ≤ 19256640 =
+    rw c.memory_size.ensures.is (span_fits c.args.self.now.limits c.others_below.result
+    (omega (arith, c.others_below.ensures.few, c.requires.member, c.args.self.now.limits.few_members))) in
     omega arith
 
 pub returns : goal.returns
 returns c =
     let l : Limits = limits_of all c.args.self.now.limits in
     let faulty : ℕ → Bool = has c.args.self.now.faulty.bits in
-    let start : c.others-below.result * c.memory_size.result ≡ start_of l faulty c.args.member =
-    ap (λ (n : ℕ). n * c.memory_size.result) c.others-below.ensures.is
+    let start : c.others_below.result * c.memory_size.result ≡ start_of l faulty c.args.member =
+    ap (λ (n : ℕ). n * c.memory_size.result) c.others_below.ensures.is
     ∙ ap (λ (n : ℕ). seat faulty c.args.member * n) c.memory_size.ensures.is in
     record {
       start = start;
-      size = ap (λ (n : ℕ). c.others-below.result * c.memory_size.result + n) c.memory_size.ensures.is;
+      size = ap (λ (n : ℕ). c.others_below.result * c.memory_size.result + n) c.memory_size.ensures.is;
       within = span_within l faulty c.args.member _ _ _ start c.memory_size.ensures.is c.requires.honest
           c.requires.member
           c.args.self.now.room;
