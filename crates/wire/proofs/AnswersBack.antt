@@ -1,10 +1,10 @@
 -- Answers are read back. Assumes nothing.
-use Rattle.std.proofs.Common.{◌≡◌, ℕ, suc, ◌+◌, ◌-◌, ◌*◌, ◌<◌, ◌≤◌, Bool, true, false, ◌&&◌, eqb, ltb, leb, List, [], ◌∷◌, ◌++◌, length, get_or, take, drop, IfOk, Some, None, Ok, Err, Option, Result, sym, refl, ap, ◌∙◌, append_assoc, append-nil, add-zero, arith, length-append, length-drop}
+use Rattle.std.proofs.Common.{◌≡◌, ℕ, suc, ◌+◌, ◌*◌, ◌<◌, true, false, ◌&&◌, eqb, ltb, leb, List, [], ◌∷◌, ◌++◌, length, get_or, take, drop, IfOk, Some, None, Ok, Err, Option, Result, sym, refl, ap, ◌∙◌, append_assoc, append-nil, add-zero, arith, length-append, length-drop}
 use Rattle.std.specs.List.{flat_map}
 use Rattle.std.proofs.lemmas.List.{get_or-drop, drop-drop, take_at}
-use Rattle.std.proofs.lemmas.Bool.{and_parts, and_from, lt-ltb, ltb-true, leb-true, ne_eqb, cond-false, cond-true, false≢true}
+use Rattle.std.proofs.lemmas.Bool.{and_parts, and_from, lt-ltb, ltb-true, leb-true, ne_eqb, cond-true, false≢true}
 use Rattle.values.specs.declared.value.Value.{Value}
-use Rattle.values.specs.Digits.{le_number, le_bytes}
+use Rattle.values.specs.Digits.{le_bytes}
 use Rattle.values.proofs.Digits.{length_digits}
 use Rattle.protocol.specs.Vote.{Vote, word_bound}
 use Rattle.protocol.specs.Member.{Answer, refused, says, got_vote}
@@ -14,7 +14,7 @@ use Rattle.wire.specs.declared.answers.Refusal.TheVariants.{NoEvent, OutOfRange,
 use Rattle.wire.specs.declared.answers.Said.{Said}
 use Rattle.wire.specs.declared.answers.Said.TheVariants.{Nothing, One, Two}
 use Rattle.wire.specs.Meaning.{refusal_number, said_of, agreed_of}
-use Rattle.wire.specs.Bytes.{Written, vote_bytes, vote_in, part, said_bytes, agreed_bytes, answer_bytes, votes_in, refused_by, agreed_by, says_by, answer_by, answer_in}
+use Rattle.wire.specs.Bytes.{Written, vote_bytes, vote_in, part, said_bytes, agreed_bytes, answer_bytes, votes_in, refused_by, agreed_by, says_by, answer_in}
 use Rattle.wire.specs.Statements.{votes_fit, agreed_fits, sayable, AnswersReadBack}
 use Rattle.wire.proofs.AnswerIn.{answer_at}
 use Rattle.wire.proofs.Sized.{sized-is, reaching-is}

@@ -1,12 +1,12 @@
 -- Answers have one spelling, and what is read can be said. Assumes nothing.
-use Rattle.std.proofs.Common.{◌≡◌, ℕ, zero, suc, ◌+◌, ◌*◌, ◌<◌, ◌≤◌, Bool, true, false, ◌&&◌, eqb, ltb, leb, List, [], ◌∷◌, ◌++◌, length, get_or, take, drop, IfOk, Ok, Err, Result, sym, refl, ap, ◌∙◌, subst, append_assoc, append-nil, arith}
+use Rattle.std.proofs.Common.{◌≡◌, ℕ, zero, suc, ◌+◌, ◌*◌, ◌<◌, ◌≤◌, true, eqb, leb, List, [], ◌∷◌, ◌++◌, length, get_or, take, IfOk, Ok, Err, Result, sym, refl, ap, ◌∙◌, subst, append_assoc, append-nil, arith}
 use Rattle.std.specs.List.{flat_map}
-use Rattle.std.proofs.lemmas.List.{take_all, take_more, drop_more}
-use Rattle.std.proofs.lemmas.Bool.{and_from, cond_both, eqb-true, leb-true, leb-false, le-leb, lt-ltb}
+use Rattle.std.proofs.lemmas.List.{take_all, take_more}
+use Rattle.std.proofs.lemmas.Bool.{and_from, cond_both, eqb-true, leb-false, lt-ltb}
 use Rattle.values.specs.Digits.{under, le_number, le_bytes}
 use Rattle.protocol.specs.Vote.{Vote}
 use Rattle.protocol.specs.Member.{Answer, refused, says}
-use Rattle.wire.specs.Bytes.{vote_bytes, vote_in, part, said_bytes, agreed_bytes, answer_bytes, sized, reaching, votes_in, refused_by, agreed_by, says_by, answer_by, answer_in}
+use Rattle.wire.specs.Bytes.{vote_bytes, part, said_bytes, answer_bytes, votes_in, refused_by, agreed_by, says_by, answer_by, answer_in}
 use Rattle.wire.specs.Statements.{votes_fit, agreed_fits, sayable, AnswersOneSpelling}
 use Rattle.wire.proofs.Sized.{sized_cases}
 use Rattle.wire.proofs.Fields.{under-part, part_below, vote_fits}

@@ -1,8 +1,8 @@
 -- The place at which bytes cease to be an event is the first at which none can go on. Assumes nothing.
-use Rattle.std.proofs.Common.{◌≡◌, ℕ, zero, suc, ◌+◌, ◌-◌, ◌^◌, ◌<◌, ◌≤◌, Bool, true, false, List, [], ◌∷◌, ◌++◌, length, get_or, take, drop, replicate, sym, refl, ap, ◌∙◌, subst, append-nil, arith, length-append, length-take}
+use Rattle.std.proofs.Common.{◌≡◌, ℕ, zero, suc, ◌-◌, ◌<◌, ◌≤◌, true, List, [], ◌∷◌, ◌++◌, length, get_or, take, replicate, sym, refl, ap, ◌∙◌, subst, append-nil, arith, length-append}
 use lib.ListN.{length-replicate}
 use Rattle.std.proofs.lemmas.List.{take_all, get_or_append_left, get_or-take, length-take-le}
-use Rattle.std.proofs.lemmas.Bool.{false≢true, lt-ltb, and_from}
+use Rattle.std.proofs.lemmas.Bool.{false≢true}
 use Rattle.values.specs.Digits.{under}
 use Rattle.values.proofs.Digits.{length_digits, under-take, under-append}
 use Rattle.protocol.specs.Member.{Event, got_vote, got_proposal, got_block, timeout, unreadable, is_event}

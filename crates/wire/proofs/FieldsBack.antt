@@ -1,11 +1,11 @@
 -- Fields, votes and proposals: what is written is read back, and what is read was written so. Assumes nothing.
-use Rattle.std.proofs.Common.{◌≡◌, ℕ, zero, suc, ◌+◌, ◌*◌, ◌^◌, ◌<◌, ◌≤◌, min, true, ◌&&◌, ltb, List, [], ◌∷◌, ◌++◌, length, take, drop, sym, refl, ap, ◌∙◌, append_assoc, append-nil, arith, length-drop, length-take}
+use Rattle.std.proofs.Common.{◌≡◌, ℕ, ◌+◌, ◌^◌, ◌<◌, ◌≤◌, true, List, [], ◌++◌, length, take, drop, sym, refl, ap, ◌∙◌, append_assoc, append-nil, arith, length-drop, length-take}
 use Rattle.std.proofs.lemmas.List.{take_at, drop_at, drop-drop, take_all, take-append-drop, take-take, drop-take}
 use Rattle.std.proofs.lemmas.Bool.{and_parts, ltb-true}
 use Rattle.values.specs.Digits.{digits, under, le_number, le_bytes}
 use Rattle.values.proofs.Digits.{length_digits, number_digits, digits_number}
 use Rattle.protocol.specs.Vote.{Vote, Proposal}
-use Rattle.protocol.specs.Member.{got_vote, got_proposal, got_block}
+use Rattle.protocol.specs.Member.{got_vote, got_proposal}
 use Rattle.protocol.specs.Programs.{readable}
 use Rattle.wire.specs.Bytes.{vote_bytes, proposal_bytes, part, vote_in, proposal_in}
 use Rattle.wire.proofs.Fields.{under-part}

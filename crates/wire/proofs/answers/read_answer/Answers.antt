@@ -1,6 +1,5 @@
-use Rattle.std.proofs.Common.{◌≡◌, ℕ, ◌<◌, true, List, get_or, IfOk, Err, Result, sym, refl, ◌∙◌, arith, w8, Fits, rules}
+use Rattle.std.proofs.Common.{◌≡◌, ℕ, ◌<◌, true, List, get_or, IfOk, Result, sym, refl, ◌∙◌, arith, w8, Fits}
 use Rattle.std.proofs.lemmas.Bool.{cond-true}
-use Rattle.std.proofs.lemmas.Bool.Decides.{nat_tests}
 use Rattle.values.proofs.Places.{under_by_places}
 use Rattle.protocol.specs.Member.{Answer}
 use Rattle.wire.specs.Bytes.{answer_in}
@@ -19,34 +18,34 @@ unfolding answer_in
 returns-then-is_empty c =
     record { is = sym (cond-true _ _ _ (sym c.if-is_empty.ensures)); fits = tt }
 
-pub returns-in_err-reaches : goal.returns-in_err-reaches
-returns-in_err-reaches c =
+pub returns-in_err-reaches-in-0 : goal.returns-in_err-reaches-in-0
+returns-in_err-reaches-in-0 c =
     let bs = c.args.bytes.now in
     let at = answer_broken bs 0 _ (sym c.if-is_empty.ensures) c.in-0.is refl in
-    let from = c.from-residual in
-    let is = at _ from.result c.in_err-reaches.ensures.is from.ensures.1 in
+    let from = c.from_residual in
+    let is = at _ from.result c.in_err-reaches-in-0.ensures.is from.ensures.1 in
     record { is = is; fits = fits_in bs _ c.type_inv.bytes is }
 
-pub returns-in_ok-reaches : goal.returns-in_ok-reaches
-returns-in_ok-reaches c =
+pub returns-in_ok-reaches-in-0 : goal.returns-in_ok-reaches-in-0
+returns-in_ok-reaches-in-0 c =
     let bs = c.args.bytes.now in
     let at = answer-long bs 0 _ (sym c.if-is_empty.ensures) c.in-0.is refl in
-    let is = c.read_refused.ensures.is ∙ at _ c.in_ok-reaches.ensures.is in
+    let is = c.read_refused.ensures.is ∙ at _ c.in_ok-reaches-in-0.ensures.is in
     record { is = is; fits = fits_in bs _ c.type_inv.bytes is }
 
-pub returns-in_err-reaches-2 : goal.returns-in_err-reaches-2
-returns-in_err-reaches-2 c =
+pub returns-in_err-reaches-in-1 : goal.returns-in_err-reaches-in-1
+returns-in_err-reaches-in-1 c =
     let bs = c.args.bytes.now in
     let at = answer_broken bs 1 _ (sym c.if-is_empty.ensures) c.in-1.is refl in
-    let from = c.from-residual-in_err-reaches-2 in
-    let is = at _ from.result c.in_err-reaches-2.ensures.is from.ensures.1 in
+    let from = c.from_residual-in_err-reaches-in-1 in
+    let is = at _ from.result c.in_err-reaches-in-1.ensures.is from.ensures.1 in
     record { is = is; fits = fits_in bs _ c.type_inv.bytes is }
 
-pub returns-in_ok-reaches-2 : goal.returns-in_ok-reaches-2
-returns-in_ok-reaches-2 c =
+pub returns-in_ok-reaches-in-1 : goal.returns-in_ok-reaches-in-1
+returns-in_ok-reaches-in-1 c =
     let bs = c.args.bytes.now in
     let at = answer-long bs 1 _ (sym c.if-is_empty.ensures) c.in-1.is refl in
-    let is = c.read_says.ensures.is ∙ at _ c.in_ok-reaches-2.ensures.is in
+    let is = c.read_says.ensures.is ∙ at _ c.in_ok-reaches-in-1.ensures.is in
     record { is = is; fits = fits_in bs _ c.type_inv.bytes is }
 
 pub returns-in_default : goal.returns-in_default

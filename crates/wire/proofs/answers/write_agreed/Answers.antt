@@ -1,4 +1,4 @@
-use Rattle.std.proofs.Common.{◌≡◌, ◌+◌, ◌*◌, ◌≤◌, length, sym, refl, ap, ◌∙◌, arith}
+use Rattle.std.proofs.Common.{◌+◌, ◌*◌, length, sym, ap, ◌∙◌, arith}
 use Rattle.values.proofs.Digits.{length_digits}
 use Rattle.values.proofs.Pieces.{front_byte, front_more, front-all}
 use Rattle.wire.specs.Bytes.{agreed_bytes}

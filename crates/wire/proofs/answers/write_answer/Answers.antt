@@ -1,29 +1,29 @@
-use Rattle.std.proofs.Common.{◌≡◌, suc, length, Ok, refl, ap, ◌∙◌, arith, length-append}
+use Rattle.std.proofs.Common.{suc, length, Ok, ap, ◌∙◌, arith, length-append}
 use Rattle.values.specs.Digits.{le_bytes}
 use Rattle.values.proofs.Digits.{length_digits}
 use Rattle.values.proofs.Pieces.{front_byte, front_more}
 use Rattle.wire.specs.Bytes.{answer_bytes}
-use Rattle.wire.specs.Meaning.{answer_of, refusal_number}
+use Rattle.wire.specs.Meaning.{answer_of}
 use Rattle.std.proofs.lemmas.Result.{IfOk-from_err}
 use Rattle.wire.specs.Statements.{sayable}
 use Rattle.wire.proofs.AnswersBack.{answer_written_back, held-refusal_fits}
 use Rattle.wire.proofs.Writing.{wrote, no_room}
 use Rattle.wire.proofs.answers.write_answer.Goals as goal
 
-pub returns-in_err-room : goal.returns-in_err-room
-returns-in_err-room c =
+pub returns-in_err-room-in-Refused : goal.returns-in_err-room-in-Refused
+returns-in_err-room-in-Refused c =
     let long = ap (λ a. length (answer_bytes (answer_of a))) c.in-Refused.is ∙ ap suc (simp (length-append, length_digits)) in
-    let err = c.from-residual.ensures in
+    let err = c.from_residual.ensures in
     record {
-      is = no_room _ _ 17 _ c.from-residual.result long c.in_err-room.ensures.is err.1;
-      back = IfOk-from_err c.from-residual.result _ err.0;
+      is = no_room _ _ 17 _ c.from_residual.result long c.in_err-room-in-Refused.ensures.is err.1;
+      back = IfOk-from_err c.from_residual.result _ err.0;
     }
 
-pub returns-in_ok-room : goal.returns-in_ok-room
-returns-in_ok-room c =
+pub returns-in_ok-room-in-Refused : goal.returns-in_ok-room-in-Refused
+returns-in_ok-room-in-Refused c =
     let was = c.args.out.now in
     let bytes = ap (λ a. answer_bytes (answer_of a)) c.in-Refused.is in
-    let room = c.in_ok-room.ensures.is in
+    let room = c.in_ok-room-in-Refused.ensures.is in
     let first = front_byte was 0 (omega (arith, room)) in
     let number = c.write_number.ensures.is ∙ ap (le_bytes 8) c.number.ensures.is in
     let why = front_more was 1 _ _ first 8 _ _ (length_digits 256 8 _) number in

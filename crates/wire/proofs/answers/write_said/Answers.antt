@@ -1,4 +1,4 @@
-use Rattle.std.proofs.Common.{◌≡◌, ◌+◌, ◌*◌, ◌≤◌, length, sym, refl, ap, ◌∙◌, append_assoc, append-nil, arith}
+use Rattle.std.proofs.Common.{◌+◌, ◌*◌, length, sym, ap, ◌∙◌, append-nil, arith}
 use Rattle.values.proofs.Digits.{length_digits}
 use Rattle.values.proofs.Pieces.{front-none, front_more, front-all}
 use Rattle.wire.specs.Bytes.{said_bytes}

@@ -1,4 +1,4 @@
-use Rattle.std.proofs.Common.{◌≡◌, suc, ◌+◌, ◌-◌, length, sym, refl, ap, ◌∙◌, arith, length-append}
+use Rattle.std.proofs.Common.{◌≡◌, ◌+◌, ◌-◌, length, sym, refl, ◌∙◌, arith, length-append}
 use Rattle.values.proofs.Pieces.{front_byte, front-to}
 use Rattle.protocol.specs.Member.{says}
 use Rattle.wire.specs.Bytes.{said_bytes, agreed_bytes, answer_bytes}
@@ -18,10 +18,10 @@ returns-in_err-room c =
     let end = 1 + c.size-at.result + c.agreed_size.result in
     let bytes = answer_bytes (says votes (agreed_of c.args.agreed)) in
     let long : length bytes ≡ end = omega arith in
-    let err = c.from-residual.ensures in
+    let err = c.from_residual.ensures in
     record {
-      is = no_room bytes _ end _ c.from-residual.result long c.in_err-room.ensures.is err.1;
-      fits = IfOk-from_err c.from-residual.result _ err.0;
+      is = no_room bytes _ end _ c.from_residual.result long c.in_err-room.ensures.is err.1;
+      fits = IfOk-from_err c.from_residual.result _ err.0;
     }
 
 pub returns : goal.returns
