@@ -1,8 +1,6 @@
-use Rattle.std.proofs.Common.{◌≡◌, sym, refl, ap, ◌∙◌, arith}
+use Rattle.std.proofs.Common.{sym, refl, arith}
 use Rattle.std.proofs.lemmas.Bool.{cond-true, both_ways}
 use Rattle.values.specs.Digits.{number_of}
-use Rattle.protocol.specs.Member.{add_block}
-use Rattle.cells.specs.Blocks.{blocks_in}
 use Rattle.cells.proofs.Here.{here_more}
 use Rattle.cells.proofs.blocks.add_block.Goals as goal
 

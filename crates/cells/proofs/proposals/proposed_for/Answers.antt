@@ -1,7 +1,5 @@
-use Rattle.std.proofs.Common.{◌≡◌, ℕ, List, [], ◌∷◌, sym, refl, ap, ◌∙◌, ⊎_elim, arith}
+use Rattle.std.proofs.Common.{[], ◌∷◌, sym, ap, ◌∙◌, ⊎_elim, arith}
 use Rattle.std.proofs.lemmas.Bool.{eq-eqb, ne_eqb, cond-true, cond-false}
-use Rattle.protocol.specs.Vote.{Proposal}
-use Rattle.cells.specs.Proposals.{proposal_at}
 use Rattle.cells.proofs.Best.{values, proposed_best}
 use Rattle.cells.proofs.proposals.proposed_for.Goals as goal
 
