@@ -2,7 +2,7 @@
 use Rattle.std.proofs.Common.{◌≡◌, ℕ, suc, ◌+◌, ◌-◌, ◌*◌, ◌/◌, ◌%◌, ◌<◌, ◌≤◌, true, false, cond, ◌&&◌, eqb, ltb, leb, ◌⊎◌, sym, refl, ap, ◌∙◌, inl, inr, ⊎_elim, mul_comm, arith}
 use Rattle.std.proofs.lemmas.Nat.{mul-add-lt, div-mul-add, mod-mul-add}
 use Rattle.std.proofs.lemmas.Bool.{and_parts, and_from, ltb-true, ltb-false, leb-true, eqb-true, eqb-false, le-leb, cases_Bool, cond-true, cond-false}
-use Rattle.protocol.specs.Vote.{soft, cert, next, next_none, value_bound, Vote, Limits}
+use Rattle.protocol.specs.Vote.{next, next_none, value_bound, Vote, Limits}
 use Rattle.protocol.specs.Member.{vote_in_range}
 use Rattle.protocol.specs.Programs.{memory_size}
 use Rattle.protocol.proofs.Votes.{Same}

@@ -1,9 +1,8 @@
 -- The kind that a number is.
-use Rattle.std.proofs.Common.{◌≡◌, ℕ, ◌<◌, ◌≤◌, Bool, true, false, cond, eqb, leb, Some, None, Option, sym, refl, ◌∙◌, arith}
+use Rattle.std.proofs.Common.{◌≡◌, ℕ, ◌≤◌, false, leb, Some, None, arith}
 use Rattle.std.proofs.lemmas.Bool.Decides.{nat_tests}
 use Rattle.std.proofs.lemmas.Bool.{lt-leb}
 use Rattle.protocol.specs.Vote.{next, next_none}
-use Rattle.wire.specs.declared.votes.Kind.{Kind}
 use Rattle.wire.specs.declared.votes.Kind.TheVariants.{Soft, Cert, Next, NextNone}
 use Rattle.wire.specs.Meaning.{kind_of}
 

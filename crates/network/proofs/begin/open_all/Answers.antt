@@ -17,8 +17,8 @@ loop-member-init c = (
   (λ i low _. absurd (omega arith), refl),
 )
 
-pub overflow-add-end : goal.overflow-add-end
-overflow-add-end c =
+pub overflow_add-end : goal.overflow_add-end
+overflow_add-end c =
     omega (
       arith,
       c.loop-member.memory.small,

@@ -1,5 +1,4 @@
-use Rattle.std.proofs.Common.{◌≡◌, ◌+◌, sym, refl, ap, ◌∙◌, arith}
-use Rattle.tally.specs.Votes.{certified_by}
+use Rattle.std.proofs.Common.{sym, arith}
 use Rattle.tally.proofs.Certain.{by_none, by_more, by_here}
 use Rattle.tally.proofs.decided.certified.Goals as goal
 

@@ -1,9 +1,9 @@
-use Rattle.std.proofs.Common.{◌≡◌, ℕ, ◌+◌, ◌*◌, ◌≤◌, sym, refl, ap, ◌∙◌, subst, arith}
+use Rattle.std.proofs.Common.{◌≡◌, ℕ, sym, ap, ◌∙◌, arith}
 use Rattle.std.proofs.lemmas.Bool.{eqb-true, eqb-false}
 use Rattle.values.specs.Digits.{number_of}
 use Rattle.values.specs.declared.value.Value.{Value}
 use Rattle.tally.specs.Votes.{row_count}
-use Rattle.tally.proofs.Majority.{Leads, leads_none, leads_empty, leads_new, leads_more, leads_less, leads_at}
+use Rattle.tally.proofs.Majority.{leads_none, leads_empty, leads_new, leads_more, leads_less, leads_at}
 use Rattle.tally.proofs.rows.majority.Goals as goal
 use Rattle.tally.proofs.rows.majority.Goals.{then-lead-eq0, else-lead-eq0+then-eq, else-lead-eq0+else-eq}
 

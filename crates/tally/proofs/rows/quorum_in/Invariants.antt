@@ -1,4 +1,4 @@
-use Rattle.std.proofs.Common.{◌≡◌, ℕ, ◌<◌}
+use Rattle.std.proofs.Common.{◌≡◌, ◌<◌}
 use Rattle.values.specs.Digits.{number_of}
 use Rattle.tally.specs.Votes.{row_count}
 use Rattle.tally.proofs.rows.quorum_in.Given as goal

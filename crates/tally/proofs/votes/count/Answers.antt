@@ -1,4 +1,4 @@
-use Rattle.std.proofs.Common.{◌≡◌, sym, ap, ◌∙◌}
+use Rattle.std.proofs.Common.{sym, ap, ◌∙◌}
 use Rattle.values.specs.Values.{value_of}
 use Rattle.tally.specs.Valid.{valid_vote, vote_limits}
 use Rattle.tally.specs.Votes.{row_count}

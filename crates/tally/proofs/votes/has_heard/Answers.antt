@@ -1,5 +1,4 @@
-use Rattle.std.proofs.Common.{◌≡◌, ℕ, List, [], ◌∷◌, sym, refl, ap, ◌∙◌}
-use Rattle.values.specs.Values.{value_of}
+use Rattle.std.proofs.Common.{ap, ◌∙◌}
 use Rattle.tally.specs.Valid.{valid_vote}
 use Rattle.tally.specs.Votes.{is_only}
 use Rattle.tally.proofs.Heard.{heard_voted}

@@ -1,4 +1,4 @@
-use Rattle.std.proofs.Common.{◌≡◌, leb, sym, ap, ◌∙◌}
+use Rattle.std.proofs.Common.{leb, sym, ap, ◌∙◌}
 use Rattle.protocol.specs.Vote.{quorum}
 use Rattle.values.specs.Values.{value_of}
 use Rattle.tally.specs.Valid.{valid_vote, vote_limits}

@@ -1,4 +1,4 @@
-use Rattle.std.proofs.Common.{◌≡◌, ℕ, ◌+◌, ◌*◌, [], ◌∷◌, sym, refl, ap, ◌∙◌, subst}
+use Rattle.std.proofs.Common.{◌≡◌, ℕ, ◌+◌, ◌*◌, [], ◌∷◌, subst}
 use Rattle.cells.specs.Cells.{Only}
 use Rattle.tally.specs.Valid.{valid_vote, vote_limits}
 use Rattle.tally.specs.Votes.{heard_at, entry_of}

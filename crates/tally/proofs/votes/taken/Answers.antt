@@ -1,4 +1,4 @@
-use Rattle.std.proofs.Common.{◌≡◌, sym, refl, ap, ◌∙◌}
+use Rattle.std.proofs.Common.{ap, ◌∙◌}
 use Rattle.protocol.specs.Member.{is_some}
 use Rattle.tally.specs.Valid.{valid_vote}
 use Rattle.tally.proofs.Heard.{taken_voted}

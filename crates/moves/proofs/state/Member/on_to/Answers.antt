@@ -8,8 +8,8 @@ use Rattle.moves.specs.Stands.{lim, Stands}
 use Rattle.moves.proofs.Onward.{on_to_goes, on_to_late, on_to-few}
 use Rattle.moves.proofs.state.Member.on_to.Goals as goal
 
-pub overflow-add-vote : goal.overflow-add-vote
-overflow-add-vote c =
+pub overflow_add-vote : goal.overflow_add-vote
+overflow_add-vote c =
     let r : Ranged (lim c.args.self) (vote_of c.args.vote) = ranged _ _ c.requires.vote in
     omega (arith, r.periods)
 

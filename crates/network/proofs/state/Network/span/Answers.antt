@@ -8,8 +8,8 @@ use Rattle.network.specs.Seats.{seat, start_of}
 use Rattle.network.proofs.Apart.{span_within, span_fits}
 use Rattle.network.proofs.state.Network.span.Goals as goal
 
-pub overflow-add-result : goal.overflow-add-result
-overflow-add-result c =
+pub overflow_add-result : goal.overflow_add-result
+overflow_add-result c =
     let small : c.others_below.result * c.memory_size.result + c.memory_size.result ≤ 19256640 =
     rw c.memory_size.ensures.is (span_fits c.args.self.now.limits c.others_below.result
     (omega (arith, c.others_below.ensures.few, c.requires.member, c.args.self.now.limits.few_members))) in

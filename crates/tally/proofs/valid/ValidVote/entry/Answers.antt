@@ -4,8 +4,8 @@ use Rattle.tally.specs.Valid.{valid_vote, vote_limits}
 use Rattle.tally.proofs.Index.{vote-within}
 use Rattle.tally.proofs.valid.ValidVote.entry.Goals as goal
 
-pub overflow-add-result : goal.overflow-add-result
-overflow-add-result c =
+pub overflow_add-result : goal.overflow_add-result
+overflow_add-result c =
     let v = c.args.self in
     let l = v.limits in
     let slots : l.periods * (2 * l.steps + 2) ≤ 32 * 18 = mul-le _ _ 32 18 l.few_periods (omega arith) in
