@@ -1,5 +1,5 @@
 -- When a member agrees, by one vote or one block.
-use Rattle.std.proofs.Common.{◌≡◌, ℕ, Bool, true, false, cond, ◌&&◌, eqb, List, [], ◌∷◌, is_some as option_is_some, Some, None, Option, sym, refl, ap, ◌∙◌, ap₂, arith}
+use Rattle.std.proofs.Common.{◌≡◌, ℕ, Bool, true, false, cond, ◌&&◌, eqb, List, [], ◌∷◌, is_some as option_is_some, Some, None, Option, refl, ap, ◌∙◌, ap₂, arith}
 use Rattle.std.proofs.lemmas.Bool.{and_from, and_left, and_right, eq-eqb, ne_eqb, cond-true, cond-false}
 use Rattle.protocol.specs.Vote.{cert, Vote, Limits, has_quorum}
 use Rattle.protocol.specs.Member.{is_some, is_in, Member, vote_in_range, certified_in, agree_on, having_agreed}

@@ -1,7 +1,7 @@
 -- Being certain, and votes of one's own.
-use Rattle.std.proofs.Common.{◌≡◌, ℕ, suc, ◌+◌, ◌-◌, ◌<◌, ◌≤◌, Bool, true, false, cond, not, ◌&&◌, eqb, List, [], ◌∷◌, sym, refl, ap, ◌∙◌, subst, arith}
-use Rattle.std.proofs.lemmas.Bool.{and_from, eq-eqb, not_from_false, cond-true, cond-false}
-use Rattle.protocol.specs.Vote.{soft, cert, next, Vote, Limits, value_bound}
+use Rattle.std.proofs.Common.{◌≡◌, ℕ, ◌<◌, ◌≤◌, Bool, true, false, cond, not, ◌&&◌, eqb, List, [], ◌∷◌, sym, refl, ap, ◌∙◌, subst, arith}
+use Rattle.std.proofs.lemmas.Bool.{and_from, eq-eqb, not_from_false, cond-true}
+use Rattle.protocol.specs.Vote.{cert, next, Vote, Limits}
 use Rattle.protocol.specs.Member.{Member, Outcome, own, silent, with_vote, now_certain, chosen, vote_in_range, say_cert, certainly}
 use Rattle.protocol.proofs.Ranges.{Ranged, range_test}
 use Rattle.values.specs.declared.value.Value.{Value}

@@ -1,8 +1,8 @@
 -- The moves after an event, one after the other, are what the protocol makes of it.
-use Rattle.std.proofs.Common.{◌≡◌, ℕ, suc, ◌<◌, ◌≤◌, Bool, true, false, cond, ◌&&◌, ◌||◌, eqb, List, [], ◌∷◌, ◌++◌, Option, sym, refl, ap, ◌∙◌, subst, ap₂, arith}
-use Rattle.std.proofs.lemmas.Bool.{or_from, and_left, and_right, ne_eqb, cond_both}
+use Rattle.std.proofs.Common.{◌≡◌, ℕ, suc, true, false, ◌&&◌, eqb, List, [], ◌∷◌, ◌++◌, Option, sym, refl, ap, ◌∙◌, subst, ap₂, arith}
+use Rattle.std.proofs.lemmas.Bool.{or_from, and_right, ne_eqb, cond_both}
 use Rattle.protocol.specs.Vote.{soft, cert, next, next_none, Vote, Limits, same_slot, slot_taken}
-use Rattle.protocol.specs.Member.{Member, Outcome, got_vote, got_block, timeout, own, silent, with_vote, with_blocks, at_step, add_block, chosen, onward, certainly, soft_value, say_soft, next_vote, first_or_zero, does}
+use Rattle.protocol.specs.Member.{Member, got_vote, got_block, timeout, own, silent, with_vote, with_blocks, at_step, add_block, chosen, onward, certainly, soft_value, say_soft, next_vote, first_or_zero, does}
 use Rattle.tally.specs.Votes.{all_in_range}
 use Rattle.wire.specs.declared.votes.Vote as code-vote
 use Rattle.wire.specs.Meaning.{vote_of}
@@ -10,7 +10,7 @@ use Rattle.moves.specs.Events.{Ready, Did}
 use Rattle.moves.specs.Moves.{voted, MayBeCertain, agree_by, agree_each, agree_block, SaidSoft, SaidNext}
 use Rattle.moves.specs.Stands.{lim, Stands}
 use Rattle.moves.specs.declared.state.Member as code
-use Rattle.moves.proofs.Arrive.{heard, vote-out, vote-member, supplied, block_out, block_member, first_said, first_certain, first_out, first_member, later_out, later_member}
+use Rattle.moves.proofs.Arrive.{vote-out, vote-member, supplied, block_out, block_member, first_said, first_out, first_member, later_out, later_member}
 use Rattle.moves.proofs.Onward.{goes, gone, by_its_kind}
 
 -- another vote in front leaves a slot free that is not its own

@@ -1,5 +1,5 @@
 -- What can be newly certified: `vs` are the votes heard before, of which nothing was certified, `ns` those heard now.
-use Rattle.std.proofs.Common.{◌≡◌, ℕ, zero, suc, ◌+◌, ◌-◌, ◌≤◌, Bool, true, false, cond, ◌⊎◌, List, [], ◌∷◌, ◌++◌, sym, refl, ◌∙◌, inl, inr, zero-add, arith}
+use Rattle.std.proofs.Common.{◌≡◌, ℕ, ◌+◌, ◌-◌, ◌≤◌, Bool, true, false, cond, ◌⊎◌, List, [], ◌∷◌, ◌++◌, sym, refl, ◌∙◌, inl, inr, zero-add, arith}
 use Rattle.std.proofs.lemmas.Bool.{both_ways, and_parts, and_from, or_cases, or_left, eqb-true, eq-eqb, leb-true, le-leb, cases_lt, cond-true, cond-false}
 use Rattle.protocol.specs.Vote.{cert, Vote, Limits, count, has_quorum}
 use Rattle.protocol.specs.Member.{is_in, certified_in}

@@ -1,14 +1,11 @@
 -- A part of memory written anew, and the other parts.
-use Rattle.std.proofs.Common.{◌≡◌, ℕ, ◌+◌, ◌-◌, ◌*◌, ◌<◌, ◌≤◌, Bool, true, false, List, length, take, drop, sym, refl, ap, ◌∙◌, subst, arith}
+use Rattle.std.proofs.Common.{◌≡◌, ℕ, ◌-◌, ◌≤◌, List, length, take, drop, sym, ap, ◌∙◌, subst, arith}
 use borrow.Rule.Slice.PartMut.{put_mid}
 use Rattle.std.specs.List.{between}
 use Rattle.std.proofs.lemmas.Slice.{between_is, take-put_mid_below, drop-put_mid, between-put_mid}
 use Rattle.std.proofs.lemmas.Bool.{true≢false}
 use Rattle.protocol.specs.Vote.{Limits}
-use Rattle.cells.specs.Proposals.{proposals_size}
-use Rattle.cells.specs.Blocks.{blocks_size}
-use Rattle.tally.specs.Layout.{votes_size}
-use Rattle.moves.specs.Parts.{Part, of-header, of-votes, of-proposals, of_blocks, of-rest, votes_end, proposals_end, blocks_end, part, OnlyIn}
+use Rattle.moves.specs.Parts.{of-header, of-votes, of-proposals, of_blocks, of-rest, votes_end, proposals_end, blocks_end, OnlyIn}
 
 -- the numbers from s up to e written anew
 module _ (mem ys : List ℕ) (s e : ℕ) (forward : s ≤ e) (within : e ≤ length mem) (sized : length ys ≡ e - s) where

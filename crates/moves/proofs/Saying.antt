@@ -1,8 +1,8 @@
 -- What a member says when time is up.
-use Rattle.std.proofs.Common.{◌≡◌, ℕ, suc, ◌+◌, ◌<◌, ◌≤◌, Bool, true, false, cond, List, [], ◌∷◌, Some, None, Option, sym, refl, ap, ◌∙◌, subst, ap₂, arith}
+use Rattle.std.proofs.Common.{◌≡◌, ℕ, suc, ◌≤◌, true, false, List, [], ◌∷◌, Some, None, Option, sym, ap, ◌∙◌, arith}
 use Rattle.std.proofs.lemmas.Bool.{cond-true, cond-false}
-use Rattle.protocol.specs.Vote.{soft, next, next_none, Vote, Limits}
-use Rattle.protocol.specs.Member.{Member, Outcome, own, silent, at_step, with_vote, soft_value, say_soft, next_vote, first_or_zero}
+use Rattle.protocol.specs.Vote.{soft, next, next_none}
+use Rattle.protocol.specs.Member.{Member, own, silent, at_step, with_vote, soft_value, say_soft, next_vote, first_or_zero}
 use Rattle.protocol.proofs.Ranges.{Ranged}
 use Rattle.values.specs.declared.value.Value.{Value}
 use Rattle.values.specs.Values.{value_of}

@@ -1,17 +1,17 @@
 -- A member that stands in its memory, after a change of one part.
-use Rattle.std.proofs.Common.{◌≡◌, ℕ, ◌≤◌, true, false, List, ◌∷◌, sym, refl, ap, ◌∙◌, subst}
+use Rattle.std.proofs.Common.{◌≡◌, ℕ, ◌≤◌, true, List, ◌∷◌, sym, refl, ap, ◌∙◌, subst}
 use Rattle.protocol.specs.Programs.{memory_size}
 use Rattle.protocol.specs.Promises.{all}
 use Rattle.protocol.specs.Vote as protocol
 use Rattle.protocol.specs.Vote.{Vote, Proposal}
-use Rattle.protocol.specs.Member.{Member, with_vote, with_proposals, with_blocks, vote_in_range}
+use Rattle.protocol.specs.Member.{Member, with_vote, with_proposals, vote_in_range}
 use Rattle.limits.specs.Limits.{limits_of}
 use Rattle.limits.specs.declared.bounds.Limits.{Limits}
 use Rattle.tally.specs.Votes.{Holds}
 use Rattle.cells.specs.Proposals.{Proposes}
 use Rattle.cells.specs.Blocks.{blocks_in}
 use Rattle.moves.specs.Moves.{Same}
-use Rattle.moves.specs.Parts.{Part, part, of-header, of-votes, of-proposals, of_blocks, of-rest, OnlyIn}
+use Rattle.moves.specs.Parts.{Part, part, of-header, of-votes, of-proposals, of_blocks, OnlyIn}
 use Rattle.moves.specs.Stands.{lim, Stands}
 use Rattle.moves.specs.declared.state.Member as code
 

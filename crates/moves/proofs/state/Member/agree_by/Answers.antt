@@ -1,8 +1,6 @@
-use Rattle.std.proofs.Common.{◌≡◌, ℕ, Bool, true, false, List, sym, refl, ap, ◌∙◌, subst, arith}
-use Rattle.protocol.specs.Vote.{cert, next, Vote, has_quorum}
+use Rattle.std.proofs.Common.{◌≡◌, sym, refl, ap, ◌∙◌, subst}
+use Rattle.protocol.specs.Vote.{cert, Vote}
 use Rattle.protocol.specs.Member.{is_some, is_in}
-use Rattle.protocol.proofs.Ranges.{ranged}
-use Rattle.values.specs.Values.{value_of}
 use Rattle.wire.specs.Meaning.{vote_of}
 use Rattle.moves.specs.Moves.{OfMember}
 use Rattle.moves.specs.Stands.{lim, Stands}

@@ -1,4 +1,4 @@
-use Rattle.std.proofs.Common.{◌≡◌, sym, refl, subst}
+use Rattle.std.proofs.Common.{sym, refl, subst}
 use Rattle.moves.specs.Moves.{OfMember}
 use Rattle.moves.specs.Stands.{lim, Stands}
 use Rattle.moves.specs.declared.state.Member.{Member}

@@ -1,4 +1,4 @@
-use Rattle.std.proofs.Common.{◌≡◌, ℕ, true, false, List, sym, refl, ap, ◌∙◌, subst}
+use Rattle.std.proofs.Common.{sym, refl, ap, ◌∙◌, subst}
 use Rattle.protocol.specs.Member.{is_some}
 use Rattle.values.specs.Values.{value_of}
 use Rattle.moves.specs.Moves.{OfMember}

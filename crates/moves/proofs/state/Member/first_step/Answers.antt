@@ -1,6 +1,6 @@
-use Rattle.std.proofs.Common.{◌≡◌, ℕ, ◌≤◌, true, false, List, [], ◌∷◌, length, sym, refl, ap, ◌∙◌, subst, arith}
+use Rattle.std.proofs.Common.{◌≡◌, ℕ, List, [], ◌∷◌, length, sym, refl, ap, ◌∙◌, subst, arith}
 use Rattle.protocol.specs.Vote.{soft, Vote}
-use Rattle.protocol.specs.Member.{Member, Outcome, own, silent, at_step, with_vote, soft_value, say_soft}
+use Rattle.protocol.specs.Member.{Outcome, own, silent, at_step, with_vote, soft_value, say_soft}
 use Rattle.protocol.proofs.Ranges.{range_test}
 use Rattle.values.specs.Values.{value_of}
 use Rattle.moves.specs.Parts.{of-votes}

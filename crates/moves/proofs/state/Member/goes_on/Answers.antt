@@ -1,4 +1,4 @@
-use Rattle.std.proofs.Common.{◌≡◌, ℕ, sym, refl, ap, ◌∙◌}
+use Rattle.std.proofs.Common.{sym, ap, ◌∙◌}
 use Rattle.protocol.specs.Vote.{next}
 use Rattle.protocol.specs.Member.{own}
 use Rattle.cells.specs.Cells.{listed}

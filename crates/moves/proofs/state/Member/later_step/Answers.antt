@@ -1,9 +1,9 @@
-use Rattle.std.proofs.Common.{◌≡◌, ℕ, suc, ◌+◌, ◌≤◌, true, false, List, length, sym, refl, ap, ◌∙◌, subst, ap₂, add-one, arith}
+use Rattle.std.proofs.Common.{◌≡◌, ℕ, suc, ◌+◌, false, List, length, sym, ap, ◌∙◌, subst, ap₂, add-one, arith}
 use Rattle.protocol.specs.Vote.{Vote, slot_taken}
-use Rattle.protocol.specs.Member.{Member, own, at_step, with_vote, chosen, next_vote}
+use Rattle.protocol.specs.Member.{own, at_step, with_vote, chosen, next_vote}
 use Rattle.protocol.proofs.Ranges.{range_test}
 use Rattle.values.specs.Values.{value_of}
-use Rattle.wire.specs.Meaning.{kind_number, vote_of}
+use Rattle.wire.specs.Meaning.{kind_number}
 use Rattle.moves.specs.Parts.{of-votes}
 use Rattle.moves.specs.Stands.{lim, Stands}
 use Rattle.moves.specs.declared.state.Member as code

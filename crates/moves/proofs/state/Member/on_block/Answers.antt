@@ -1,9 +1,8 @@
-use Rattle.std.proofs.Common.{◌≡◌, ℕ, ◌≤◌, List, [], sym, refl, ap, ◌∙◌, subst, arith}
-use Rattle.protocol.specs.Vote.{Vote, Limits}
+use Rattle.std.proofs.Common.{ℕ, List, refl, ap, ◌∙◌}
 use Rattle.moves.specs.Events.{Did}
 use Rattle.moves.specs.Moves.{Same}
-use Rattle.moves.specs.Parts.{OnlyIn, of-votes, of-proposals, of_blocks, of-header, of-rest}
-use Rattle.moves.specs.Stands.{lim, Stands}
+use Rattle.moves.specs.Parts.{OnlyIn, of-votes, of_blocks, of-header, of-rest}
+use Rattle.moves.specs.Stands.{lim}
 use Rattle.moves.specs.declared.state.Member.{Member}
 use Rattle.protocol.specs.Member.{add_block}
 use Rattle.values.specs.Values.{value_of}

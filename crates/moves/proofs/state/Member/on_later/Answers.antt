@@ -1,9 +1,7 @@
-use Rattle.std.proofs.Common.{◌≡◌, ℕ, suc, ◌-◌, ◌≤◌, List, [], sym, refl, ap, ◌∙◌, subst, arith}
-use Rattle.protocol.specs.Vote.{Vote, Limits}
-use Rattle.moves.specs.Events.{Did}
+use Rattle.std.proofs.Common.{ℕ, ◌-◌, List, refl, arith}
 use Rattle.moves.specs.Moves.{Same}
-use Rattle.moves.specs.Parts.{OnlyIn, of-votes, of-proposals, of_blocks, of-header, of-rest}
-use Rattle.moves.specs.Stands.{lim, Stands}
+use Rattle.moves.specs.Parts.{of-header, of-rest}
+use Rattle.moves.specs.Stands.{lim}
 use Rattle.moves.specs.declared.state.Member.{Member}
 use Rattle.protocol.specs.Member.{chosen}
 use Rattle.moves.proofs.Coming.{later_done, next_slot}

@@ -1,11 +1,7 @@
-use Rattle.std.proofs.Common.{◌≡◌, ℕ, ◌≤◌, List, [], sym, refl, ap, ◌∙◌, subst, arith}
-use Rattle.protocol.specs.Vote.{Vote, Limits}
-use Rattle.moves.specs.Events.{Did}
-use Rattle.moves.specs.Moves.{Same}
-use Rattle.moves.specs.Parts.{OnlyIn, of-votes, of-proposals, of_blocks, of-header, of-rest}
-use Rattle.moves.specs.Stands.{lim, Stands}
+use Rattle.std.proofs.Common.{ℕ, List, refl}
+use Rattle.moves.specs.Parts.{of-header, of-rest}
 use Rattle.moves.specs.declared.state.Member.{Member}
-use Rattle.protocol.specs.Member.{Outcome, silent, with_proposals, keep_best, got_proposal, does}
+use Rattle.protocol.specs.Member.{keep_best, does}
 use Rattle.wire.specs.Meaning.{proposal_of}
 use Rattle.moves.proofs.Standing.{kept_best}
 use Rattle.moves.proofs.state.Member.on_proposal.Goals as goal

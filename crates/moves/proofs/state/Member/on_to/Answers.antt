@@ -1,9 +1,9 @@
-use Rattle.std.proofs.Common.{◌≡◌, ℕ, ◌<◌, ◌≤◌, true, false, List, sym, refl, ◌∙◌, subst, arith}
-use Rattle.protocol.specs.Vote.{Limits, Vote}
+use Rattle.std.proofs.Common.{sym, refl, ◌∙◌, subst, arith}
+use Rattle.protocol.specs.Vote.{Vote}
 use Rattle.protocol.proofs.Ranges.{Ranged, ranged}
 use Rattle.wire.specs.Meaning.{vote_of}
 use Rattle.cells.specs.Cells.{listed}
-use Rattle.moves.specs.Moves.{OfMember, Same}
+use Rattle.moves.specs.Moves.{OfMember}
 use Rattle.moves.specs.Stands.{lim, Stands}
 use Rattle.moves.proofs.Onward.{on_to_goes, on_to_late, on_to-few}
 use Rattle.moves.proofs.state.Member.on_to.Goals as goal

@@ -1,7 +1,5 @@
-use Rattle.std.proofs.Common.{◌≡◌, ℕ, List, sym, refl, ap, ◌∙◌}
-use Rattle.protocol.specs.Vote.{Vote, Limits}
-use Rattle.protocol.specs.Promises.{all}
-use Rattle.limits.specs.Limits.{limits_of}
+use Rattle.std.proofs.Common.{ℕ, List, refl, ◌∙◌}
+use Rattle.protocol.specs.Vote.{Vote}
 use Rattle.wire.specs.Meaning.{vote_of}
 use Rattle.moves.specs.Events.{Did}
 use Rattle.moves.specs.Moves.{Same}

@@ -1,8 +1,7 @@
 use Rattle.std.proofs.Common.{◌≡◌, false, leb, Some, sym, refl, ap, ◌∙◌, subst, inl, inr}
 use Rattle.protocol.specs.Vote.{next, Vote}
-use Rattle.protocol.specs.Member.{onward, silent}
 use Rattle.protocol.proofs.Ranges.{ranged}
-use Rattle.wire.specs.Meaning.{vote_of, kind_of}
+use Rattle.wire.specs.Meaning.{vote_of}
 use Rattle.moves.specs.Moves.{OfMember}
 use Rattle.moves.specs.Stands.{lim, Stands}
 use Rattle.moves.specs.declared.state.Member.{Member}

@@ -1,10 +1,7 @@
-use Rattle.std.proofs.Common.{◌≡◌, ℕ, ◌≤◌, List, [], sym, refl, ap, ◌∙◌, subst, arith}
-use Rattle.protocol.specs.Vote.{Vote, Limits}
-use Rattle.moves.specs.Events.{Did}
-use Rattle.moves.specs.Moves.{Same}
-use Rattle.moves.specs.Parts.{OnlyIn, of-votes, of-proposals, of_blocks, of-header, of-rest}
-use Rattle.moves.specs.Stands.{lim, Stands}
-use Rattle.moves.specs.declared.state.Member.{Member}
+use Rattle.std.proofs.Common.{ℕ, List, sym, refl, subst}
+use Rattle.protocol.specs.Vote.{Limits}
+use Rattle.moves.specs.Parts.{of-votes, of-proposals}
+use Rattle.moves.specs.Stands.{lim}
 use Rattle.tally.specs.Votes.{Holds}
 use Rattle.cells.specs.Proposals.{Proposes}
 use Rattle.moves.proofs.state.Member.with_blocks.Goals as goal
