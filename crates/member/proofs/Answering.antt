@@ -1,16 +1,14 @@
 -- An answer, from the checks that passed and what was done.
-use Rattle.std.proofs.Common.{◌≡◌, ℕ, zero, suc, ◌+◌, ◌-◌, ◌<◌, ◌≤◌, Bool, true, false, cond, not, ◌&&◌, ◌||◌, eqb, ltb, leb, ◌⊎◌, List, [], ◌∷◌, length, get_or, take, drop, Some, None, Option, sym, refl, ap, ◌∙◌, subst, ap₂, inl, inr, arith, length-drop, get_or-drop, get_or-take}
-use Rattle.std.specs.List.{between}
+use Rattle.std.proofs.Common.{◌≡◌, ℕ, suc, ◌+◌, ◌-◌, ◌<◌, ◌≤◌, true, false, eqb, List, [], length, get_or, take, drop, Some, None, Option, sym, refl, ap, ◌∙◌, inr, arith, length-drop, get_or-drop, get_or-take}
 use Rattle.std.proofs.lemmas.List.{same_lists, get_or_default}
-use Rattle.std.proofs.lemmas.Bool.{eq-eqb, ne_eqb, cond-true, cond-false, and_from, true≢false}
+use Rattle.std.proofs.lemmas.Bool.{eq-eqb, ne_eqb, cond-true, cond-false, true≢false}
 use Rattle.protocol.specs.Vote.{Limits}
-use Rattle.protocol.specs.Member.{Member, Event, Answer, refused, says, is_some, is_event, event_number, in_range, last_refusal, refusal, not_refused, place, does, answer, after}
+use Rattle.protocol.specs.Member.{Member, Event, refused, says, is_some, is_event, event_number, in_range, last_refusal, refusal, not_refused, place, does, answer, after}
 use Rattle.values.specs.declared.value.Value.{Value}
 use Rattle.wire.specs.Meaning.{agreed_of}
 use Rattle.cells.specs.Cells.{listed, Only}
-use Rattle.member.specs.Header.{Asks, Header, option_at}
-use Rattle.member.specs.Header as header
-use Rattle.moves.specs.Parts.{Part, of-header, of-votes, of-proposals, of_blocks, of-rest, votes_end, proposals_end, blocks_end, part, OnlyIn}
+use Rattle.member.specs.Header.{Header}
+use Rattle.moves.specs.Parts.{of-header, of-votes, of-proposals, of_blocks, of-rest, votes_end, proposals_end, blocks_end, part, OnlyIn}
 use Rattle.member.proofs.Stores.{option_same}
 use Rattle.moves.specs.declared.state.Member as code
 

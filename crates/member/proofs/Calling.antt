@@ -1,10 +1,10 @@
 -- A call of the member that memory holds, whatever events it holds.
-use Rattle.std.proofs.Common.{◌≡◌, ℕ, ◌<◌, ◌≤◌, Bool, true, false, List, [], ◌∷◌, length, get_or, IfSome, Some, None, Option, sym, refl, ap, ◌∙◌, subst, arith, MatchOption}
+use Rattle.std.proofs.Common.{◌≡◌, ℕ, ◌<◌, true, List, ◌∷◌, length, IfSome, Some, None, Option, sym, refl, ap, ◌∙◌, subst, MatchOption}
 use Rattle.protocol.specs.Vote.{Limits}
-use Rattle.protocol.specs.Member.{Member, Event, Answer, unreadable, refused, is_event, place, refusal, answer, after}
+use Rattle.protocol.specs.Member.{Member, Event, unreadable, refused, is_event, place, refusal, answer, after}
 use Rattle.protocol.specs.Programs.{member_after, all_words}
 use Rattle.protocol.specs.Promises.{all}
-use Rattle.safety.specs.Alone.{Fresh, Place}
+use Rattle.safety.specs.Alone.{Fresh}
 use Rattle.safety.proofs.Lone.{own_fresh, agrees_at_once, in_its_place}
 use Rattle.tally.specs.Votes.{Holds}
 use Rattle.cells.specs.Proposals.{Proposes}

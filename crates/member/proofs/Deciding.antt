@@ -1,10 +1,9 @@
 -- Which refusal an event has after the first three, and the answer that follows.
-use Rattle.std.proofs.Common.{◌≡◌, ℕ, suc, ◌<◌, ◌≤◌, Bool, true, false, cond, ◌&&◌, ◌||◌, eqb, ltb, leb, List, [], ◌∷◌, length, sym, refl, ap, ◌∙◌, subst, ap₂, arith}
-use Rattle.std.proofs.lemmas.Bool.{cases_Bool, or_from, or_left, or_right, and_from, and_parts, eq-eqb, ne_eqb, le-leb, lt-ltb, le-ltb, leb-true, ltb-true, cond-true, cond-false}
-use Rattle.std.proofs.lemmas.Bool.Decides.{nat_tests}
+use Rattle.std.proofs.Common.{◌≡◌, ℕ, suc, ◌<◌, ◌≤◌, Bool, true, false, cond, ◌&&◌, ◌||◌, eqb, ltb, leb, List, [], length, sym, refl, ◌∙◌, subst, ap₂, arith}
+use Rattle.std.proofs.lemmas.Bool.{or_from, or_left, or_right, and_from, ne_eqb, le-leb, lt-ltb, le-ltb, leb-true, cond-true, cond-false}
 use Rattle.protocol.specs.Vote as protocol
 use Rattle.protocol.specs.Vote.{Vote, Proposal, value_bound, slot_taken}
-use Rattle.protocol.specs.Member.{Member, Event, got_vote, got_proposal, got_block, timeout, refused, says, is_in, is_event, event_number, vote_in_range, in_range, last_refusal, refusal, place, does, answer, after}
+use Rattle.protocol.specs.Member.{Member, Event, got_vote, got_proposal, got_block, timeout, refused, says, is_in, is_event, event_number, vote_in_range, in_range, last_refusal, refusal, place, does}
 use Rattle.wire.specs.declared.answers.Answer.{Answer}
 use Rattle.wire.specs.declared.events.Event as code-event
 use Rattle.wire.specs.declared.events.Event.TheVariants as code-variants
@@ -14,7 +13,7 @@ use Rattle.member.specs.Answered.{Carries, Answered}
 use Rattle.moves.specs.Events.{Did, KeptParts}
 use Rattle.member.specs.Header.{Header}
 use Rattle.moves.specs.Moves.{Same}
-use Rattle.moves.specs.Parts.{of-header, of-rest, part, OnlyIn}
+use Rattle.moves.specs.Parts.{of-header, of-rest, OnlyIn}
 use Rattle.moves.specs.Stands.{lim, Stands}
 use Rattle.moves.specs.declared.state.Member as code
 use Rattle.member.proofs.Answering.{header-kept, refused-answer, refused-after, taken_answer, taken_after, by_last}

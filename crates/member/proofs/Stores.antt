@@ -1,9 +1,9 @@
 -- A header written in three parts.
-use Rattle.std.proofs.Common.{◌≡◌, ℕ, ◌+◌, ◌<◌, ◌≤◌, Bool, true, false, cond, not, eqb, ◌≢◌, ◌⊎◌, List, [], ◌∷◌, length, get_or, set, sym, refl, ap, ◌∙◌, subst, inl, inr, arith, length-set, get_or-set_other, get_or-set_same}
+use Rattle.std.proofs.Common.{◌≡◌, ℕ, ◌+◌, ◌<◌, ◌≤◌, Bool, true, false, not, eqb, ◌≢◌, ◌⊎◌, List, length, get_or, set, refl, ◌∙◌, inl, inr, arith, length-set, get_or-set_other, get_or-set_same}
 use mir.Val.{bool_byte}
 use Rattle.limits.specs.declared.bounds.Limits.{Limits}
-use Rattle.cells.specs.Cells.{value_at, listed, Only}
-use Rattle.member.specs.Header.{option_at, flag_at, Asks, Place, Header}
+use Rattle.cells.specs.Cells.{listed, Only}
+use Rattle.member.specs.Header.{option_at, Asks, Place, Header}
 use Rattle.moves.specs.declared.state.Member.{Member}
 
 -- a number written at a place leaves the others

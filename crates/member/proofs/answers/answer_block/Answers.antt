@@ -1,15 +1,12 @@
-use Rattle.std.proofs.Common.{◌≡◌, ℕ, ◌<◌, ◌≤◌, false, List, length, sym, refl, ap, ◌∙◌, subst, arith}
-use Rattle.moves.specs.Events.{Ready}
+use Rattle.std.proofs.Common.{◌≡◌, ℕ, List, length, sym, refl, ap, ◌∙◌, subst, arith}
 use Rattle.moves.specs.Stands.{lim}
 use Rattle.moves.specs.declared.state.Member.{Member}
-use Rattle.protocol.specs.Vote.{value_bound}
 use Rattle.protocol.specs.Member.{Event, got_block, is_in, place}
 use Rattle.values.specs.declared.value.Value.{Value}
 use Rattle.values.specs.Values.{value_of}
 use Rattle.values.proofs.Limbs.{value_below}
 use Rattle.wire.specs.declared.answers.Answer.TheVariants.{Refused}
 use Rattle.wire.specs.declared.answers.Refusal.TheVariants.{NoMoreBlocks}
-use Rattle.cells.specs.Blocks.{blocks_in}
 use Rattle.cells.proofs.Here.{length-blocks}
 use Rattle.member.specs.Answered.{Answered}
 use Rattle.moves.specs.Moves.{OfMember}

@@ -1,9 +1,7 @@
-use Rattle.std.proofs.Common.{◌≡◌, ℕ, ◌<◌, ◌≤◌, List, length, sym, refl, ap, ◌∙◌, subst, arith}
-use Rattle.moves.specs.Events.{Ready}
+use Rattle.std.proofs.Common.{refl, arith}
 use Rattle.moves.specs.Stands.{lim}
 use Rattle.moves.specs.declared.state.Member.{Member}
-use Rattle.protocol.specs.Vote.{Proposal}
-use Rattle.protocol.specs.Member.{got_proposal, place}
+use Rattle.protocol.specs.Member.{got_proposal}
 use Rattle.wire.specs.Meaning.{proposal_of}
 use Rattle.member.proofs.Deciding.{proposal_taken, done}
 use Rattle.cells.proofs.InRange.{proposal_periods}

@@ -1,11 +1,11 @@
-use Rattle.std.proofs.Common.{◌≡◌, ℕ, ◌<◌, ◌≤◌, List, length, sym, refl, ap, ◌∙◌, subst, arith}
+use Rattle.std.proofs.Common.{ℕ, List, refl, subst, arith}
 use Rattle.moves.specs.Events.{Ready}
 use Rattle.moves.specs.Stands.{lim}
 use Rattle.moves.specs.declared.state.Member.{Member}
 use Rattle.protocol.specs.Member.{timeout, place, does}
 use Rattle.wire.specs.Meaning.{said_of}
 use Rattle.moves.specs.Events.{Did, KeptParts}
-use Rattle.moves.specs.Moves.{OfMember, Same}
+use Rattle.moves.specs.Moves.{Same}
 use Rattle.moves.specs.Stands.{Stands}
 use Rattle.member.proofs.Deciding.{time_refused, time_taken, refuse, done}
 use Rattle.member.proofs.answers.answer_timeout.Goals as goal

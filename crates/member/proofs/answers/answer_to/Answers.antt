@@ -1,5 +1,5 @@
-use Rattle.std.proofs.Common.{◌≡◌, ℕ, true, false, List, [], sym, refl, ap, ◌∙◌, subst}
-use Rattle.protocol.specs.Member.{Event, in_range, vote_in_range, is_event, event_number, place}
+use Rattle.std.proofs.Common.{◌≡◌, true, sym, refl, ◌∙◌, subst}
+use Rattle.protocol.specs.Member.{Event, in_range}
 use Rattle.wire.specs.declared.events.Event as code
 use Rattle.wire.specs.Meaning.{event_of}
 use Rattle.wire.proofs.Meaning.{real_event}

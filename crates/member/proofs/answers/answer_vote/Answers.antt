@@ -1,5 +1,5 @@
-use Rattle.std.proofs.Common.{◌≡◌, ℕ, ◌<◌, ◌≤◌, true, false, List, length, sym, refl, ap, ◌∙◌, subst, arith}
-use Rattle.moves.specs.Events.{Ready, Did}
+use Rattle.std.proofs.Common.{◌≡◌, ℕ, true, false, List, sym, refl, ap, ◌∙◌, subst, arith}
+use Rattle.moves.specs.Events.{Did}
 use Rattle.moves.specs.Stands.{lim}
 use Rattle.moves.specs.declared.state.Member.{Member}
 use Rattle.protocol.specs.Vote.{Vote, slot_taken}

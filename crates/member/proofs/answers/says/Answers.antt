@@ -1,9 +1,8 @@
-use Rattle.std.proofs.Common.{◌≡◌, ℕ, List, sym, refl, ap, ◌∙◌, subst, arith}
+use Rattle.std.proofs.Common.{ℕ, List, sym, refl, ap, ◌∙◌, subst, arith}
 use Rattle.protocol.specs.Member.{says}
 use Rattle.wire.specs.Meaning.{said_of}
 use Rattle.limits.specs.declared.bounds.Limits.{Limits}
 use Rattle.member.specs.Header.{Asks}
-use Rattle.moves.specs.Moves.{Same}
 use Rattle.moves.specs.Stands.{lim}
 use Rattle.moves.specs.declared.state.Member.{Member}
 use Rattle.member.proofs.Answering.{agreed-listed, only-header}

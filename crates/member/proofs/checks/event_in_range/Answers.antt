@@ -1,6 +1,6 @@
-use Rattle.std.proofs.Common.{◌≡◌, sym, refl, ap, ◌∙◌, inl, inr}
+use Rattle.std.proofs.Common.{sym, ap, ◌∙◌}
 use Rattle.protocol.specs.Vote.{value_bound}
-use Rattle.protocol.specs.Member.{Event, in_range}
+use Rattle.protocol.specs.Member.{in_range}
 use Rattle.protocol.specs.Promises.{all}
 use Rattle.limits.specs.Limits.{limits_of}
 use Rattle.wire.specs.declared.events.Event as code

@@ -1,4 +1,4 @@
-use Rattle.std.proofs.Common.{◌≡◌, is_some as option_is_some, sym, refl, ap, ◌∙◌}
+use Rattle.std.proofs.Common.{is_some as option_is_some, sym, ap, ◌∙◌}
 use Rattle.protocol.specs.Member.{is_some}
 use Rattle.moves.proofs.Agreeing.{listed_some}
 use Rattle.member.proofs.checks.undecided.Goals as goal

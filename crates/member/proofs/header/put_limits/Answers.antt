@@ -1,4 +1,4 @@
-use Rattle.std.proofs.Common.{◌≡◌, ℕ, ◌≤◌, List, length, arith, length-set}
+use Rattle.std.proofs.Common.{ℕ, ◌≤◌, List, length, arith, length-set}
 use Rattle.limits.specs.declared.bounds.Limits.{Limits}
 use Rattle.member.specs.Header.{mark}
 use Rattle.member.proofs.Stores.{five_else, five_0, five_1, five_2, five_3, five_4}

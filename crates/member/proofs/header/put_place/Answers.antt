@@ -1,4 +1,4 @@
-use Rattle.std.proofs.Common.{◌≡◌, ℕ, ◌≤◌, List, length, ◌∙◌, arith}
+use Rattle.std.proofs.Common.{ℕ, ◌≤◌, List, length, arith}
 use Rattle.member.proofs.Stores.{five_else, five_0, five_1, five_2, five_3, five_4, flag_put}
 use Rattle.moves.specs.declared.state.Member.{Member}
 use Rattle.member.proofs.header.put_place.Goals as goal

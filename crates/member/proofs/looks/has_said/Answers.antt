@@ -1,4 +1,4 @@
-use Rattle.std.proofs.Common.{◌≡◌, false, eqb, sym, ◌∙◌}
+use Rattle.std.proofs.Common.{eqb, sym}
 use Rattle.std.proofs.lemmas.Bool.{and_right}
 use Rattle.tally.proofs.Heard.{not_heard}
 use Rattle.wire.specs.Meaning.{vote_of}

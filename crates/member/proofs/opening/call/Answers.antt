@@ -1,4 +1,4 @@
-use Rattle.std.proofs.Common.{◌≡◌, ℕ, List, subst, arith}
+use Rattle.std.proofs.Common.{ℕ, List, subst, arith}
 use Rattle.protocol.specs.Member.{Event, refused}
 use Rattle.wire.specs.Meaning.{answer_of, event_of}
 use Rattle.member.specs.Calls.{Called}

@@ -1,8 +1,4 @@
-use Rattle.std.proofs.Common.{◌≡◌, ℕ, ◌<◌, List, sym, refl, ap, ◌∙◌, subst, arith}
-use Rattle.protocol.specs.Vote as protocol
-use Rattle.protocol.specs.Promises.{all}
-use Rattle.limits.specs.Limits.{limits_of}
-use Rattle.limits.specs.declared.bounds.Limits.{Limits}
+use Rattle.std.proofs.Common.{arith}
 use Rattle.member.proofs.Fresh.{words_by_places, opening}
 use Rattle.member.proofs.opening.open.Goals as goal
 

@@ -1,4 +1,4 @@
-use Rattle.std.proofs.Common.{◌≡◌, ℕ, List, sym, refl, ap, ◌∙◌, arith}
+use Rattle.std.proofs.Common.{ℕ, List, refl, ◌∙◌, arith}
 use Rattle.protocol.specs.Vote.{Limits}
 use Rattle.protocol.specs.Promises.{all}
 use Rattle.limits.specs.Limits.{limits_of}
