@@ -1,5 +1,5 @@
 -- An event that is delivered to an honest member of a network that runs.
-use Rattle.std.proofs.Common.{◌≡◌, ℕ, ◌+◌, ◌<◌, Bool, true, false, ◌||◌, List, [], ◌∷◌, Ok, Err, Result, sym, refl, ap, ◌∙◌, subst}
+use Rattle.std.proofs.Common.{◌≡◌, ℕ, ◌+◌, ◌<◌, Bool, true, false, ◌||◌, List, Ok, Err, Result, sym, refl, ap, ◌∙◌, subst}
 use mathlib.Core.Logic.{∥∥₁_map}
 use Rattle.std.specs.List.{between}
 use Rattle.protocol.specs.Vote.{Vote, Limits}
@@ -11,12 +11,12 @@ use Rattle.limits.specs.Limits.{limits_of}
 use Rattle.limits.specs.declared.bounds.Limits as code
 use Rattle.wire.specs.declared.answers.Answer.{Answer}
 use Rattle.wire.specs.Meaning.{answer_of}
-use Rattle.member.specs.Calls.{Called, ByCall, BySaid}
+use Rattle.member.specs.Calls.{ByCall, BySaid}
 use Rattle.member.specs.declared.calls.NotOpen.{NotOpen}
 use Rattle.network.specs.Calls.{Delivered}
 use Rattle.network.specs.Memory.{heard_in, may_come, may_happen, Agreement}
 use Rattle.network.specs.Parts.{OnlyPart}
-use Rattle.network.specs.Running.{Running, Stepped}
+use Rattle.network.specs.Running.{Running}
 use Rattle.network.specs.Seats.{start_of, memory_of}
 use Rattle.network.proofs.Agreeing.{said_heard, happens-there, agreement}
 use Rattle.network.proofs.Apart.{memory_apart}

@@ -1,13 +1,13 @@
 -- The memory of a network stays that of one that the protocol can come to: when it begins, and at each event.
-use Rattle.std.proofs.Common.{◌≡◌, ℕ, ◌<◌, Bool, true, false, cond, eqb, ◌≢◌, ◌⊎◌, List, [], ◌∷◌, sym, refl, ap, ◌∙◌, subst, inl, inr, arith}
+use Rattle.std.proofs.Common.{◌≡◌, ℕ, ◌<◌, Bool, true, false, cond, eqb, ◌≢◌, List, [], ◌∷◌, sym, refl, ap, ◌∙◌, subst, inl, inr, arith}
 use Rattle.std.proofs.lemmas.Bool.{cases_Bool, eqb-false, cond-true}
 use Rattle.protocol.specs.Vote.{Vote, Limits}
 use Rattle.protocol.specs.Member.{Member, Event, Answer, refused, says, answer, after, refusal, not_refused, does, place}
-use Rattle.protocol.specs.Network.{Network, new_network, deliver, can_happen, Reachable, begun, happens}
+use Rattle.protocol.specs.Network.{Network, new_network, deliver, can_happen, begun, happens}
 use Rattle.protocol.specs.Programs.{member_after}
 use Rattle.safety.proofs.Single.{agreed-stays}
 use Rattle.safety.proofs.Reached.{all_after}
-use Rattle.member.specs.Calls.{Kept, Called, Opened}
+use Rattle.member.specs.Calls.{Called, Opened}
 use Rattle.network.specs.Memory.{agreed_in}
 use Rattle.network.specs.Running.{Held, HoldsAll, Running, Stepped}
 use Rattle.network.specs.Seats.{memory_of}

@@ -1,4 +1,4 @@
-use Rattle.std.proofs.Common.{ℕ, ◌-◌, ◌≤◌, List, [], length, take, drop, vec_items, sym, refl, subst, arith, length-drop, length-take}
+use Rattle.std.proofs.Common.{ℕ, ◌-◌, ◌≤◌, List, length, take, drop, vec_items, sym, refl, subst, arith, length-drop, length-take}
 use Rattle.protocol.specs.Programs.{memory_size}
 use Rattle.protocol.specs.Promises.{all}
 use Rattle.limits.specs.Limits.{limits_of}

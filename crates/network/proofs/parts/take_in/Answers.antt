@@ -1,4 +1,4 @@
-use Rattle.std.proofs.Common.{ℕ, List, length, vec_items, sym, refl, ap, ◌∙◌, subst, arith}
+use Rattle.std.proofs.Common.{ℕ, List, vec_items, sym, refl, subst, arith}
 use Rattle.std.specs.List.{between}
 use Rattle.member.specs.Calls.{ByCall}
 use Rattle.wire.specs.Meaning.{event_of}

@@ -1,4 +1,4 @@
-use Rattle.std.proofs.Common.{◌≡◌, ℕ, ◌+◌, sym, refl, ap, ◌∙◌, add-one, arith}
+use Rattle.std.proofs.Common.{ℕ, ◌+◌, sym, refl, ap, ◌∙◌, add-one, arith}
 use Rattle.protocol.specs.Network.{how_many}
 use Rattle.network.proofs.Apart.{seat-honest, seat_faulty}
 use Rattle.network.specs.Members.{has}

@@ -10,8 +10,7 @@ returns c = record {
 }
 
 pub invariant_of-result : goal.invariant_of-result
-invariant_of-result c = (
-  or_lt 64 c.args.self.bits ((1 * 2 ^ c.args.member) % 2 ^ 64) c.args.self.word
-      (mod-lt _ (pow_pos 64)),
-  tt,
-)
+invariant_of-result c =
+    record {
+      word = or_lt 64 c.args.self.bits ((1 * 2 ^ c.args.member) % 2 ^ 64) c.args.self.word (mod-lt _ (pow_pos 64));
+    }

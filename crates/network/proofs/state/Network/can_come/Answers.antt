@@ -1,5 +1,5 @@
-use Rattle.std.proofs.Common.{◌≡◌, ℕ, Bool, List, Ok, vec_items, sym, ◌∙◌, subst}
-use Rattle.protocol.specs.Vote.{Limits, Vote}
+use Rattle.std.proofs.Common.{ℕ, List, Ok, vec_items, sym, ◌∙◌, subst}
+use Rattle.protocol.specs.Vote.{Vote}
 use Rattle.protocol.specs.Promises.{all}
 use Rattle.limits.specs.Limits.{limits_of}
 use Rattle.wire.specs.Meaning.{vote_of}

@@ -1,4 +1,4 @@
-use Rattle.std.proofs.Common.{◌≡◌, ℕ, Bool, true, not, List, Ok, vec_items, sym, refl, ◌∙◌, subst, arith}
+use Rattle.std.proofs.Common.{ℕ, Bool, List, Ok, vec_items, sym, refl, ◌∙◌, subst, arith}
 use Rattle.protocol.specs.Vote.{Limits}
 use Rattle.protocol.specs.Promises.{all}
 use Rattle.limits.specs.Limits.{limits_of}
@@ -14,24 +14,20 @@ invariant_of-self c =
     let l : Limits = limits_of all c.args.self.now.limits in
     let faulty : ℕ → Bool = has c.args.self.now.faulty.bits in
     let mem : List ℕ = vec_items c.args.self.now.memory in
-    let new : List ℕ = vec_items c.take_in.new.memory in (
-      c.args.self.now.few,
-      (
-        omega (arith, c.args.self.now.room, c.take_in.ensures.len),
-        (
-          runs_then c.args.self.now.limits faulty mem new c.args.self.now.few c.args.self.now.runs
-              c.args.to
-              c.if-to-self.false (sym c.has.ensures.is ∙ c.if-has.false) (event_of c.args.event)
-              (sym c.can_happen.ensures.is ∙ c.if-not-can_happen.false)
-              (only-there l faulty c.args.to _ _ c.span-start.ensures.start c.span-start.ensures.size
-              mem new c.take_in.ensures.only)
-              c.take_in.result
-              (called-there l faulty c.args.to _ _ c.span-start.ensures.start c.span-start.ensures.size
-              mem new _ _ c.take_in.ensures.is),
-          tt,
-        ),
-      ),
-    )
+    let new : List ℕ = vec_items c.take_in.new.memory in
+    record {
+      few = c.args.self.now.few;
+      room = omega (arith, c.args.self.now.room, c.take_in.ensures.len);
+      runs = runs_then c.args.self.now.limits faulty mem new c.args.self.now.few c.args.self.now.runs
+          c.args.to
+          c.if-to-self.false (sym c.has.ensures.is ∙ c.if-has.false) (event_of c.args.event)
+          (sym c.can_happen.ensures.is ∙ c.if-not-can_happen.false)
+          (only-there l faulty c.args.to _ _ c.span-start.ensures.start c.span-start.ensures.size
+          mem new c.take_in.ensures.only)
+          c.take_in.result
+          (called-there l faulty c.args.to _ _ c.span-start.ensures.start c.span-start.ensures.size
+          mem new _ _ c.take_in.ensures.is);
+    }
 
 pub unreachable-requires : goal.unreachable-requires
 unreachable-requires c =

@@ -1,5 +1,4 @@
-use Rattle.std.proofs.Common.{ℕ, List, IfSome, vec_items, sym, ap, ◌∙◌, subst, MatchOption}
-use Rattle.std.specs.List.{between}
+use Rattle.std.proofs.Common.{ℕ, List, IfSome, vec_items, sym, ◌∙◌, subst, MatchOption}
 use Rattle.protocol.specs.Promises.{all}
 use Rattle.limits.specs.Limits.{limits_of}
 use Rattle.member.specs.Calls.{IsNotOpen, Looks}

@@ -1,5 +1,6 @@
-use Rattle.std.proofs.Common.{vec_items, arith}
+use Rattle.std.proofs.Common.{ℕ, Bool, vec_items, arith}
 use Rattle.protocol.specs.Promises.{all}
+use Rattle.protocol.specs.Vote.{Limits}
 use Rattle.limits.specs.Limits.{limits_of}
 use Rattle.network.specs.Members.{has}
 use Rattle.network.proofs.Apart.{others, room_is}
@@ -37,21 +38,12 @@ returns-then-len-needed c = record {
 
 pub invariant_of-result : goal.invariant_of-result
 invariant_of-result c =
-    let room = room_is (limits_of all c.args.limits) (has c.args.faulty.bits) _ _
-    c.others_below-honest.ensures.is c.memory.ensures.is in (
-      omega (
-        arith,
-        c.if-limits-honest.false,
-        c.others_below-honest.ensures.is,
-        others
-            (has c.args.faulty.bits) c.args.limits.members,
-      ),
-      (
-        omega (arith, room, c.if-len-needed.false, c.len.ensures, c.open_all.ensures.len),
-        (
-          ∣ begins (limits_of all c.args.limits) (has c.args.faulty.bits)
-              (vec_items c.open_all.new.memory) c.open_all.ensures.is ∣₁,
-          tt,
-        ),
-      ),
-    )
+    let l : Limits = limits_of all c.args.limits in
+    let faulty : ℕ → Bool = has c.args.faulty.bits in
+    let room = room_is l faulty _ _ c.others_below-honest.ensures.is c.memory.ensures.is in
+    let honest = c.others_below-honest.ensures.is in
+    record {
+      few = omega (arith, c.if-limits-honest.false, honest, others faulty c.args.limits.members);
+      room = omega (arith, room, c.if-len-needed.false, c.len.ensures, c.open_all.ensures.len);
+      runs = ∣ begins l faulty (vec_items c.open_all.new.memory) c.open_all.ensures.is ∣₁;
+    }
