@@ -17,17 +17,16 @@ most Periods = 32
 most Steps = 8
 most Blocks = 256
 
--- in its range, which is from 1 on
-abbrev pub within : Limit → ℕ → Bool
-within limit n = nat_le 1 n && nat_le n (most limit)
+abbrev pub within : ℕ → ℕ → Bool
+within most n = nat_le 1 n && nat_le n most
 
 -- the first limit that is out of range
 abbrev pub first_bad : ℕ → ℕ → ℕ → ℕ → Option Limit
 first_bad members periods steps blocks =
-    cond (within Members members)
-    (cond (within Periods periods)
-    (cond (within Steps steps)
-    (cond (within Blocks blocks) None (Some Blocks))
+    cond (within 64 members)
+    (cond (within 32 periods)
+    (cond (within 8 steps)
+    (cond (within 256 blocks) None (Some Blocks))
     (Some Steps))
     (Some Periods))
     (Some Members)

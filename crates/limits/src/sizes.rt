@@ -1,5 +1,5 @@
 // Making limits, and what follows from them: the quorum, and the memory that a member asks for.
-ghost use Rattle.std.specs.Prelude.{◌≡◌};
+ghost use Rattle.std.specs.Prelude.{◌≡◌, ◌*◌};
 ghost use Rattle.protocol.specs.Promises.{all};
 ghost use Rattle.protocol.specs.Vote.{quorum};
 ghost use Rattle.protocol.specs.Programs.{memory_size};
@@ -45,5 +45,12 @@ impl Limits {
     {
         8 * (self.members * (self.periods * (2 * self.steps + 2)))
             + (8 * self.periods + (4 * self.blocks + 64))
+    }
+
+    // The same in bytes.
+    pub fn memory_bytes(self) -> u64
+        ensures is { result ≡ 8 * memory_size (limits_of all self) }
+    {
+        8 * self.memory()
     }
 }

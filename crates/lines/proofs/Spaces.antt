@@ -3,8 +3,8 @@ use Rattle.std.proofs.Common.{◌≡◌, ℕ, ◌<◌, Bool, true, false, cond, 
 use Rattle.std.specs.Str.Parse.{AllDigits}
 use Rattle.std.proofs.lemmas.Bool.{and_parts, and_from, not-true, not_from_false, ne_eqb, eq-eqb, eqb-true, leb-true, le-leb}
 use Rattle.std.proofs.lemmas.Str.Parse.{digit_from_value}
-use Rattle.text.specs.Words.{onto_first, pieces, words}
-use Rattle.text.proofs.Cuts.{free_of, one_piece, not_one_piece}
+use Rattle.text.specs.Words.{free_of, onto_first, pieces, words}
+use Rattle.text.proofs.Cuts.{one_piece, not_one_piece}
 use Rattle.decimals.specs.Decimals.{spelled}
 use Rattle.lines.specs.Between.{between, spaced}
 use Rattle.decimals.proofs.Spelled.{digits-spelled}

@@ -5,10 +5,9 @@ use Rattle.std.proofs.lemmas.Bool.{and_from, le-leb, cases_order, both_ways}
 use Rattle.protocol.specs.Vote as protocol
 use Rattle.protocol.specs.Programs.{memory_size}
 use Rattle.protocol.specs.Promises.{all}
-use Rattle.limits.specs.Limits.{limits_of, most, within, first_bad}
+use Rattle.limits.specs.Limits.{limits_of, within, first_bad}
 use Rattle.limits.specs.declared.bounds.Limits.{Limits}
 use Rattle.limits.specs.declared.bounds.Limit.{Limit}
-use Rattle.limits.specs.declared.bounds.Limit.TheVariants.{Members, Periods, Steps, Blocks}
 use Rattle.member.specs.Calls.{OfNumbers, Opened, ByOpen}
 use Rattle.member.specs.declared.calls.OpenError.{OpenError}
 use Rattle.member.specs.declared.calls.OpenError.TheVariants.{OutOfRange, NotMember, TooShort}
@@ -20,8 +19,8 @@ use Rattle.network.proofs.Delivering.{at_span, only-there}
 pub numbers_of : (k : Limits) → OfNumbers k.members k.periods k.steps k.blocks (limits_of all k)
 numbers_of k = record { members = refl; periods = refl; steps = refl; blocks = refl; takes = λ _ _. refl }
 
-is_within : (limit : Limit) (n : ℕ) → 1 ≤ n → n ≤ most limit → within limit n ≡ true
-is_within limit n some few = and_from _ _ (le-leb 1 n some) (le-leb n (most limit) few)
+is_within : (most n : ℕ) → 1 ≤ n → n ≤ most → within most n ≡ true
+is_within most n some few = and_from _ _ (le-leb 1 n some) (le-leb n most few)
 
 -- four tests that are met
 none_bad : (a b c d : Bool) (w x y z : Option Limit) → a ≡ true → b ≡ true → c ≡ true → d ≡ true →
@@ -30,10 +29,10 @@ none_bad a b c d w x y z p q r s = rw (p, q, r, s)
 
 in_range : (k : Limits) → first_bad k.members k.periods k.steps k.blocks ≡ None
 in_range k =
-    none_bad _ _ _ _ _ _ _ _ (is_within Members k.members k.some_member k.few_members)
-    (is_within Periods k.periods k.some_period k.few_periods)
-    (is_within Steps k.steps k.some_step k.few_steps)
-    (is_within Blocks k.blocks k.some_block k.few_blocks)
+    none_bad _ _ _ _ _ _ _ _ (is_within 64 k.members k.some_member k.few_members)
+    (is_within 32 k.periods k.some_period k.few_periods)
+    (is_within 8 k.steps k.some_step k.few_steps)
+    (is_within 256 k.blocks k.some_block k.few_blocks)
 
 pub no_error : (k : Limits) (me : ℕ) (mem new : List ℕ) (e : OpenError) → me < k.members →
     memory_size (limits_of all k) ≤ length mem →

@@ -1,8 +1,7 @@
 -- What is printed of a delivery is read back, in one spelling, and stands before the first colon of its line.
 use Rattle.std.proofs.Common.{◌≡◌, ℕ, true, List, [], ◌∷◌, ◌++◌, Some, None, codes, sym, refl, ap, ◌∙◌}
 use Rattle.std.specs.Str.Parse.{digits_value}
-use Rattle.text.specs.Words.{words}
-use Rattle.text.proofs.Cuts.{free_of}
+use Rattle.text.specs.Words.{free_of, words}
 use Rattle.protocol.specs.Member.{Event}
 use Rattle.lines.specs.Between.{spaced}
 use Rattle.decimals.specs.Decimals.{spelled}

@@ -1,12 +1,7 @@
 -- A text cut at its first separator.
-use Rattle.std.proofs.Common.{◌≡◌, ℕ, zero, suc, ◌+◌, ◌<◌, ◌≤◌, Bool, true, false, cond, not, ◌&&◌, eqb, List, [], ◌∷◌, length, get_or, take, drop, sym, refl, ap, ◌∙◌, subst, le_of_suc-le-suc, add-one, arith}
-use Rattle.std.proofs.lemmas.Bool.{and_parts, and_from, eq-eqb, ne_eqb, not-true, not_from_false, cond-true, cond-false}
-use Rattle.text.specs.Words.{onto_first, pieces}
-
--- no separator stands in it
-abbrev pub free_of : ℕ → List ℕ → Bool
-free_of sep [] = true
-free_of sep (c ∷ cs) = not (eqb c sep) && free_of sep cs
+use Rattle.std.proofs.Common.{◌≡◌, ℕ, zero, suc, ◌<◌, Bool, true, false, cond, not, eqb, List, [], ◌∷◌, length, get_or, take, drop, refl, le_of_suc-le-suc, arith}
+use Rattle.std.proofs.lemmas.Bool.{and_parts, and_from, eq-eqb, ne_eqb, not-true, not_from_false}
+use Rattle.text.specs.Words.{free_of, onto_first, pieces}
 
 module _ (sep : ℕ) where
   -- a byte that is no separator goes in front of the first piece

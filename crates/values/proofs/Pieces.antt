@@ -1,7 +1,7 @@
--- Bytes that are written piece by piece. Assumes nothing.
+-- Bytes that are written, or read, piece by piece. Assumes nothing.
 use Rattle.std.proofs.Common.{◌≡◌, ℕ, ◌+◌, ◌<◌, ◌≤◌, List, [], ◌∷◌, ◌++◌, length, take, drop, set, sym, refl, ap, ◌∙◌, subst, append_assoc, append-nil, arith, length-append}
 use borrow.Rule.Slice.PartMut.{put_mid}
-use Rattle.std.proofs.lemmas.List.{take_at, drop_at, drop-drop, drop_all}
+use Rattle.std.proofs.lemmas.List.{take_at, drop_at, drop-drop, drop_all, take-append-drop, take-take, drop-take}
 
 -- the first n bytes are now q, and the rest is as it was in xs
 pub record Front (xs : List ℕ) (n : ℕ) (q now : List ℕ) : Type 0 where
@@ -27,6 +27,14 @@ front_more xs n q now h k p part long is =
 -- all of the bytes
 pub front-all : (xs : List ℕ) (n : ℕ) (q now : List ℕ) → Front xs n q now → length xs ≤ n → now ≡ q
 front-all xs n q now h all = h.is ∙ ap (λ l. q ++ l) (drop_all n xs all) ∙ append-nil q
+
+-- one piece more that is read
+pub read_more : (bs : List ℕ) (n : ℕ) (q : List ℕ) → take n bs ≡ q → (k : ℕ) (p : List ℕ) → p ≡ take k (drop n bs) →
+    take (n + k) bs ≡ q ++ p
+read_more bs n q h k p is =
+    sym (take-append-drop n (take (n + k) bs))
+    ∙ (λ i. take-take n (n + k) bs (omega arith) i ++ drop-take n k bs i)
+    ∙ (λ i. h i ++ sym is i)
 
 -- the first byte
 pub front_byte : (xs : List ℕ) (b : ℕ) → 0 < length xs → Front xs 1 (b ∷ []) (set xs 0 b)

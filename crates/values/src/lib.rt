@@ -1,7 +1,9 @@
-// A value below 2^256 as four numbers, and to and from its bytes.
+// A value below 2^256 as four numbers, and numbers and values to and from bytes.
 #![tactic(auto)]
 
 mod bytes;
+mod parts;
 mod value;
 
+pub use parts::{read_number, read_value, write_number, write_value};
 pub use value::Value;

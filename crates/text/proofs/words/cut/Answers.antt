@@ -1,7 +1,7 @@
-use Rattle.std.proofs.Common.{◌≡◌, ℕ, suc, ◌+◌, ◌-◌, ◌<◌, ◌≤◌, true, List, ◌∷◌, length, take, drop, sym, ap, subst, add-one, arith, length-drop}
+use Rattle.std.proofs.Common.{◌≡◌, ℕ, ◌+◌, ◌-◌, true, List, length, take, drop, sym, subst, add-one, arith, length-drop}
 use Rattle.std.proofs.lemmas.List.{take_all}
-use Rattle.text.specs.Words.{pieces}
-use Rattle.text.proofs.Cuts.{free_of, one_piece, pieces_at, free_more}
+use Rattle.text.specs.Words.{free_of}
+use Rattle.text.proofs.Cuts.{one_piece, pieces_at, free_more}
 use Rattle.text.proofs.words.cut.Goals as goal
 
 pub returns-then-c-sep : goal.returns-then-c-sep
