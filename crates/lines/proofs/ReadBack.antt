@@ -4,7 +4,7 @@ use Rattle.std.specs.Str.Parse.{digits_value}
 use Rattle.std.proofs.lemmas.Bool.{false≢true}
 use Rattle.text.specs.Words.{pieces, words}
 use Rattle.text.proofs.Cuts.{free_of}
-use Rattle.protocol.specs.Vote.{Vote, Proposal}
+use Rattle.protocol.specs.Vote.{Vote}
 use Rattle.protocol.specs.Member.{Event, got_vote, got_proposal, got_block, timeout, unreadable, is_event}
 use Rattle.protocol.specs.Member.{refused, says}
 use Rattle.wire.specs.Meaning.{event_of}
