@@ -3,7 +3,7 @@ use Rattle.std.proofs.Common.{◌≡◌, ℕ, true, cond, eqb, List, [], ◌∷�
 use Rattle.std.specs.Str.Parse.{digits_value}
 use Rattle.std.proofs.lemmas.Bool.{false≢true}
 use Rattle.text.specs.Words.{free_of, pieces, words}
-use Rattle.protocol.specs.Vote.{Vote, Proposal}
+use Rattle.protocol.specs.Vote.{Vote}
 use Rattle.protocol.specs.Member.{Event, got_vote, got_proposal, got_block, timeout, unreadable, is_event}
 use Rattle.protocol.specs.Member.{refused, says}
 use Rattle.wire.specs.Meaning.{event_of}

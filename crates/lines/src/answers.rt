@@ -13,7 +13,7 @@ use wire::{Answer, Refusal, Said, Vote};
 
 // A vote, and a separator after it.
 fn put_followed<W: fmt::Write>(vote: Vote, sep: &str, f: &mut fmt::Formatter<W>) -> fmt::Result
-    ensures is { WritesOnOk write_str_gives f.old result
+    ensures is { WritesOnOk W.write_str_gives f.old result
         (vote_text (vote_of vote) ++ sep.now) f.new }
 {
     put_vote(vote, f)?;
@@ -22,7 +22,7 @@ fn put_followed<W: fmt::Write>(vote: Vote, sep: &str, f: &mut fmt::Formatter<W>)
 
 // The votes, with a separator after each.
 fn put_said<W: fmt::Write>(said: Said, sep: &str, f: &mut fmt::Formatter<W>) -> fmt::Result
-    ensures is { WritesOnOk write_str_gives f.old result
+    ensures is { WritesOnOk W.write_str_gives f.old result
         (followed sep.now (map vote_text (said_of said))) f.new }
 {
     match said {
@@ -36,7 +36,7 @@ fn put_said<W: fmt::Write>(said: Said, sep: &str, f: &mut fmt::Formatter<W>) -> 
 }
 
 fn put_agreed<W: fmt::Write>(agreed: Option<Value>, f: &mut fmt::Formatter<W>) -> fmt::Result
-    ensures is { WritesOnOk write_str_gives f.old result (agreed_text (agreed_of agreed)) f.new }
+    ensures is { WritesOnOk W.write_str_gives f.old result (agreed_text (agreed_of agreed)) f.new }
 {
     match agreed {
         None => write!(f, "agreed none"),
@@ -52,7 +52,7 @@ fn put_refused<W: fmt::Write>(
     place: u64,
     f: &mut fmt::Formatter<W>,
 ) -> fmt::Result
-    ensures is { WritesOnOk write_str_gives f.old result (refused_text (refusal_number refusal) place) f.new }
+    ensures is { WritesOnOk W.write_str_gives f.old result (refused_text (refusal_number refusal) place) f.new }
 {
     let number = refusal.number();
     write!(f, "refused {number} {place}")
@@ -60,7 +60,7 @@ fn put_refused<W: fmt::Write>(
 
 // The parts, with a separator between them.
 fn put_answer<W: fmt::Write>(answer: Answer, sep: &str, f: &mut fmt::Formatter<W>) -> fmt::Result
-    ensures is { WritesOnOk write_str_gives f.old result
+    ensures is { WritesOnOk W.write_str_gives f.old result
         (between sep.now (answer_parts (answer_of answer))) f.new }
 {
     match answer {

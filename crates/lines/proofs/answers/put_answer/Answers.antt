@@ -17,8 +17,8 @@ returns-in-Refused g c =
     ∙ ap (answer_text sep) (sym c.in-Refused.is) in
     record { is = λ plain ok. has_written_of_eq g.W.Write.write_str_gives _ _ _ _ is (c.put_refused.ensures.is plain ok) }
 
-pub returns-in_ok-put_said : goal.returns-in_ok-put_said
-returns-in_ok-put_said g c =
+pub returns-in_ok-put_said-in-Says : goal.returns-in_ok-put_said-in-Says
+returns-in_ok-put_said-in-Says g c =
     let took = g.W.Write.write_str_gives in
     let sep = c.args.sep.now in
     let votes = map vote_text (said_of c.in-Says.said) in
@@ -26,7 +26,7 @@ returns-in_ok-put_said g c =
     ∙ ap (answer_text sep) (sym c.in-Says.is) in
     record {
       is = λ plain ok.
-          let said = c.in_ok-put_said.ensures.is plain refl in
+          let said = c.in_ok-put_said-in-Says.ensures.is plain refl in
           let agreed = c.put_agreed.ensures.is said.plain ok in
           has_written_of_eq took _ _ _ _ is (has_written_append took _ _ _ _ _ said agreed);
     }

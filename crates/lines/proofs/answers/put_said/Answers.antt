@@ -23,15 +23,15 @@ returns-in-One g c =
     let is = one_followed sep (vote_text (vote_of c.in-One.vote)) ∙ ap (said_text sep) (sym c.in-One.is) in
     record { is = λ plain ok. has_written_of_eq g.W.Write.write_str_gives _ _ _ _ is (c.put_followed.ensures.is plain ok) }
 
-pub returns-in_ok-put_followed : goal.returns-in_ok-put_followed
-returns-in_ok-put_followed g c =
+pub returns-in_ok-put_followed-in-Two : goal.returns-in_ok-put_followed-in-Two
+returns-in_ok-put_followed-in-Two g c =
     let took = g.W.Write.write_str_gives in
     let sep = c.args.sep.now in
     let is = two_followed sep (vote_text (vote_of c.in-Two.first)) (vote_text (vote_of c.in-Two.second))
     ∙ ap (said_text sep) (sym c.in-Two.is) in
     record {
       is = λ plain ok.
-          let first = c.in_ok-put_followed.ensures.is plain refl in
+          let first = c.in_ok-put_followed-in-Two.ensures.is plain refl in
           let second = c.put_followed-in-Two-2.ensures.is first.plain ok in
           has_written_of_eq took _ _ _ _ is (has_written_append took _ _ _ _ _ first second);
     }

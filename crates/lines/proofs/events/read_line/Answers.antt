@@ -9,7 +9,7 @@ returns-in_err-last_value c =
     (λ e. absurd (false≢true (c.if-is_word-2.ensures.is.1 e)))
     (λ e. absurd (false≢true (c.if-is_word-3.ensures.is.1 e)))
     (λ _. c.in_err-last_value.ensures.is) in
-    record { is = rw c.from-residual-in_err-last_value.ensures none }
+    record { is = rw c.from_residual-in_err-last_value.ensures none }
 
 pub returns : goal.returns
 returns c =

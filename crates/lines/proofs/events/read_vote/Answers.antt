@@ -4,7 +4,7 @@ use Rattle.lines.proofs.events.read_vote.Goals as goal
 pub returns-in_err-kind : goal.returns-in_err-kind
 returns-in_err-kind c =
     record {
-      is = rw c.from-residual.ensures
+      is = rw c.from_residual.ensures
           (λ v fits e. c.in_err-kind.ensures.is v.kind _ _ (vote_fits v fits).0 e);
     }
 
@@ -12,7 +12,7 @@ pub returns-in_err-period : goal.returns-in_err-period
 returns-in_err-period c =
     let kind = c.in_ok-kind.ensures.is in
     record {
-      is = rw c.from-residual-in_err-period.ensures
+      is = rw c.from_residual-in_err-period.ensures
           (λ v fits e. c.in_err-period.ensures.is v.period _ _ (vote_fits v fits).1 (after_word kind e));
     }
 
@@ -21,7 +21,7 @@ returns-in_err-step c =
     let kind = c.in_ok-kind.ensures.is in
     let period = c.in_ok-period.ensures.is in
     record {
-      is = rw c.from-residual-in_err-step.ensures
+      is = rw c.from_residual-in_err-step.ensures
           (λ v fits e. c.in_err-step.ensures.is v.step _ _ (vote_fits v fits).2
           (after_word period (after_word kind e)));
     }
@@ -33,7 +33,7 @@ returns-in_err-value-2 c =
     let step = c.in_ok-step.ensures.is in
     let value = c.in_ok-value.ensures.is in
     record {
-      is = rw c.from-residual-in_err-value-2.ensures
+      is = rw c.from_residual-in_err-value-2.ensures
           (λ v fits e. c.in_err-value-2.ensures.is v.value (vote_fits v fits).3
           (first_word value (value-from v kind period step e)));
     }
@@ -45,7 +45,7 @@ returns-in_err-from c =
     let step = c.in_ok-step.ensures.is in
     let value = c.in_ok-value.ensures.is in
     record {
-      is = rw c.from-residual-in_err-from.ensures
+      is = rw c.from_residual-in_err-from.ensures
           (λ v fits e. c.in_err-from.ensures.is v.from (vote_fits v fits).4
           (after_word value (value-from v kind period step e)));
     }

@@ -7,7 +7,7 @@ pub returns-in_err-number : goal.returns-in_err-number
 returns-in_err-number c =
     let text = c.args.text.now in
     let none = not_spelled text c.in_err-number.ensures.is in
-    record { is = rw c.from-residual.ensures (last_from_whole (2 ^ 64) (λ (n : ℕ). n) text None none) }
+    record { is = rw c.from_residual.ensures (last_from_whole (2 ^ 64) (λ (n : ℕ). n) text None none) }
 
 pub returns : goal.returns
 returns c =

@@ -12,7 +12,7 @@ returns-in_err-number c =
     let no_number = not_spelled c.in_ok-word.word.now c.in_err-number.ensures.is in
     let none : (n : ℕ) (w : List ℕ) (ws : List (List ℕ)) → n < 2 ^ 64 → words text ≡ spelled n ∷ (w ∷ ws) → ⊥ =
     λ n w ws small e. no_number n small (cc) in
-    record { is = rw c.from-residual-in_err-number.ensures none }
+    record { is = rw c.from_residual-in_err-number.ensures none }
 
 pub returns : goal.returns
 returns c =

@@ -7,7 +7,7 @@ use Rattle.script.proofs.reads.read_delivery.Goals as goal
 pub returns-in_err-to : goal.returns-in_err-to
 returns-in_err-to c =
     record {
-      is = rw c.from-residual.ensures
+      is = rw c.from_residual.ensures
           (λ i e small is fits q. one_word_none i e is c.in_err-to.ensures.is q);
     }
 
@@ -16,7 +16,7 @@ returns-in_err-to-2 c =
     let at = c.in_ok-to.ensures.is in
     let no_number = not_spelled c.in_ok-to.to.now c.in_err-to-2.ensures.is in
     record {
-      is = rw c.from-residual-in_err-to-2.ensures (λ i e small is fits q. no_number i small (first_word at q));
+      is = rw c.from_residual-in_err-to-2.ensures (λ i e small is fits q. no_number i small (first_word at q));
     }
 
 pub returns : goal.returns
