@@ -5,7 +5,7 @@ use Rattle.protocol.specs.Vote.{Limits, slot_taken, is_vote_in, count, has_quoru
 use Rattle.protocol.specs.Member.{is_some, is_in, event_number, chosen_in, certified_in, keep_best, proposed, say_soft, first_or_zero, next_vote, onward_all, say_cert, agree_on, does, vote_in_range, in_range, is_event, last_refusal, place}
 use Rattle.protocol.specs.Network.{Network, new_network, deliver, votes_of, can_happen, Reachable, begun, happens, how_many, FewFaulty}
 use Rattle.protocol.specs.Promises.{thin, GoodLimits}
-use Rattle.protocol.specs.Worked.{Row, played, possible, network_after, four, third_faulty, Worked, two_ways, all_agree}
+use Rattle.protocol.specs.Worked.{Row, played, possible, network_after, four, third_faulty, Worked, SpokenOf, two_ways, all_agree}
 
 -- every definition that playing a table goes through
 pub computing : ℕ
@@ -42,12 +42,13 @@ few_of_four : FewFaulty four third_faulty
 unfolding how_many
 few_of_four = lit< tt
 
+pub spoken_of_four : SpokenOf four third_faulty
+spoken_of_four = record { good = four-good; few = few_of_four }
+
 pub two_ways_stands : Worked four third_faulty two_ways
 unfolding computing
 two_ways_stands = record {
   as_computed = refl;
-  good = four-good;
-  few = few_of_four;
   reachable = reached four third_faulty new_network two_ways begun refl;
 }
 
@@ -55,7 +56,5 @@ pub all_agree-stands : Worked four third_faulty all_agree
 unfolding computing
 all_agree-stands = record {
   as_computed = refl;
-  good = four-good;
-  few = few_of_four;
   reachable = reached four third_faulty new_network all_agree begun refl;
 }

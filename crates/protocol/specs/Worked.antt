@@ -50,12 +50,15 @@ unfoldable pub network_after : Limits → Network → List Row → Network
 network_after l w [] = w
 network_after l w (r ∷ rs) = network_after l (deliver l w r.to r.event) rs
 
--- the table is what the definitions compute, and what it tells can happen, in a network of which the promises speak
+-- the table is what the definitions compute, and what it tells can happen
 pub record Worked (l : Limits) (faulty : ℕ → Bool) (rows : List Row) : Type 0 where
   pub as_computed : played l new_network rows ≡ rows
+  pub reachable : Reachable l faulty (network_after l new_network rows)
+
+-- a network of which the promises speak
+pub record SpokenOf (l : Limits) (faulty : ℕ → Bool) : Type 0 where
   pub good : GoodLimits thin l
   pub few : FewFaulty l faulty
-  pub reachable : Reachable l faulty (network_after l new_network rows)
 
 -- FOUR MEMBERS, OF WHOM NUMBER 3 IS FAULTY
 
