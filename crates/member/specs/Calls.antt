@@ -63,13 +63,12 @@ SaidIt v m = v.from == m.me && is_vote_in v m.votes
 -- whether it said this vote; or no member is held
 abbrev pub BySaid : List ℕ → protocol.Vote → Result Bool NotOpen → Type 0
 BySaid mem v (Ok b) =
-    IsOpen mem
-    × ((l : protocol.Limits) (i : ℕ) (es : List Event) → Kept l i es mem → b ≡ SaidIt v (member_after l i es))
+    (l : protocol.Limits) (i : ℕ) (es : List Event) → Kept l i es mem → b ≡ SaidIt v (member_after l i es)
 BySaid mem v (Err n) = IsNotOpen mem
 
 -- called; or no member is held, and nothing changes
 abbrev pub ByCall : List ℕ → Event → List ℕ → Result code.Answer NotOpen → Type 0
-ByCall mem e new (Ok a) = IsOpen mem × Called mem e new (answer_of a)
+ByCall mem e new (Ok a) = Called mem e new (answer_of a)
 ByCall mem e new (Err n) = IsNotOpen mem × (new ≡ mem)
 
 -- limits of these numbers, at a stage that takes the four events

@@ -1,8 +1,8 @@
 // Looking at the member that memory holds.
-ghost use Rattle.std.specs.Prelude.{◌≡◌, ◌≤◌, length, IfSome, MatchOption};
+ghost use Rattle.std.specs.Prelude.{◌≡◌, ◌≤◌, length, IfSome, IfOk, MatchOption};
 ghost use Rattle.protocol.specs.Programs.{memory_size};
 ghost use Rattle.wire.specs.Meaning.{vote_of};
-ghost use Rattle.member.specs.Calls.{IsNotOpen, Looks, SaidIt, BySaid};
+ghost use Rattle.member.specs.Calls.{IsOpen, IsNotOpen, Looks, SaidIt, BySaid};
 ghost use Rattle.member.specs.Header.{Header};
 ghost use Rattle.moves.specs.Moves.{OfMember};
 ghost use Rattle.moves.specs.Stands.{lim, Stands};
@@ -38,6 +38,7 @@ fn has_said(member: Member, memory: &[u64], vote: Vote) -> bool
 // Did the member in this memory say this vote?
 pub fn said(memory: &[u64], vote: Vote) -> Result<bool, NotOpen>
     ensures is { BySaid memory.now (vote_of vote) result }
+    ensures held { IfOk result (λ _. IsOpen memory.now) }
 {
     let Some(member) = load(memory) else {
         return Err(NotOpen);

@@ -1,5 +1,5 @@
 // Opening a member in lent memory, and calling it.
-ghost use Rattle.std.specs.Prelude.{◌≡◌, ◌<◌, ◌≤◌, length};
+ghost use Rattle.std.specs.Prelude.{◌≡◌, ◌<◌, ◌≤◌, length, IfOk};
 ghost use Rattle.protocol.specs.Member.{new_member};
 ghost use Rattle.protocol.specs.Programs.{memory_size};
 ghost use Rattle.protocol.specs.Promises.{all};
@@ -7,7 +7,7 @@ ghost use Rattle.limits.specs.Limits.{limits_of};
 ghost use Rattle.wire.specs.Bytes.{event_in};
 ghost use Rattle.wire.specs.Meaning.{event_of};
 ghost use Rattle.member.specs.Answered.{Carries};
-ghost use Rattle.member.specs.Calls.{ByOpen, ByCall};
+ghost use Rattle.member.specs.Calls.{IsOpen, ByOpen, ByCall};
 ghost use Rattle.moves.specs.Parts.{part, of-rest, Blank};
 
 use super::answers::answer_to;
@@ -79,6 +79,7 @@ pub fn open(
 // The answer of the member in this memory to an event.
 pub fn take(memory: &mut [u64], event: Event) -> Result<Answer, NotOpen>
     ensures is { ByCall memory.old (event_of event) memory.new result }
+    ensures held { IfOk result (λ _. IsOpen memory.old) }
 {
     let Some(member) = load(memory) else {
         return Err(NotOpen);
@@ -89,6 +90,7 @@ pub fn take(memory: &mut [u64], event: Event) -> Result<Answer, NotOpen>
 // The answer of the member in this memory to the event that the bytes are.
 pub fn call(memory: &mut [u64], bytes: &[u8]) -> Result<Answer, NotOpen>
     ensures is { ByCall memory.old (event_in bytes.now) memory.new result }
+    ensures held { IfOk result (λ _. IsOpen memory.old) }
 {
     let Some(member) = load(memory) else {
         return Err(NotOpen);

@@ -48,7 +48,7 @@ said_comes k faulty mem run v b low good said =
     let l : Limits = limits_of all k in
     let part : List ℕ = memory_of l faulty v.from mem in
     flag_of_run run (λ r. said_heard l v.from part (r.state.member v.from) v b (r.held v.from low good) refl
-    (said.1 l v.from)) ∙ ap (λ (t : Bool). t || heard_in l part v) (sym good)
+    (said l v.from)) ∙ ap (λ (t : Bool). t || heard_in l part v) (sym good)
 
 -- AN EVENT THAT COMES
 
@@ -87,13 +87,13 @@ module _ (k : code.Limits) (faulty : ℕ → Bool) (mem new : List ℕ) (few : F
   pub runs_then : (r : Result Answer NotOpen) → ByCall (memory_of l faulty i mem) e (memory_of l faulty i new) r →
       ∥ Running l faulty new ∥₁
   runs_then (Ok a) called =
-      ∥∥₁_map run (λ r. runs_on l faulty mem new r i low good e (answer_of a) called.1 others
+      ∥∥₁_map run (λ r. runs_on l faulty mem new r i low good e (answer_of a) called others
       (happens-there k faulty mem few r e can))
   runs_then (Err n) none = absurd (open_there l faulty mem run i low good none.0)
 
   pub delivered : (a : Answer) → ByCall (memory_of l faulty i mem) e (memory_of l faulty i new) (Ok a) →
       Delivered l faulty i mem new e (answer_of a)
-  delivered a (held, called) = record {
+  delivered a called = record {
     member = low;
     honest = good;
     can = can;
@@ -106,5 +106,5 @@ module _ (k : code.Limits) (faulty : ℕ → Bool) (mem new : List ℕ) (few : F
     others = others;
     stays = λ j x lj gj was. list_of_run run
         (λ r. stays l faulty mem new r i low good e (answer_of a) called others j x lj gj was);
-    agreement = agreement-stands k faulty new few (runs_then (Ok a) (held, called));
+    agreement = agreement-stands k faulty new few (runs_then (Ok a) called);
   }

@@ -11,21 +11,17 @@ returns-in-Ok c =
     let mem : List ℕ = c.args.memory.now in
     let new : List ℕ = c.answer_to.new.memory in
     record {
-      is = (
-        (c.in-Some.member, c.in-Some.ensures.is),
-        subst (λ (e : Event). Called mem e new (answer_of c.answer_to.result)) c.in-Ok.ensures.is
-            (called mem new c.in-Some.member (event_of c.in-Ok.event) c.answer_to.result c.in-Some.ensures.is
-            c.answer_to.ensures.is (omega arith) (words_by_places new (λ i. (c.type_inv.memory i).fits))),
-      );
+      is = subst (λ (e : Event). Called mem e new (answer_of c.answer_to.result)) c.in-Ok.ensures.is
+          (called mem new c.in-Some.member (event_of c.in-Ok.event) c.answer_to.result c.in-Some.ensures.is
+          c.answer_to.ensures.is (omega arith) (words_by_places new (λ i. (c.type_inv.memory i).fits)));
+      held = (c.in-Some.member, c.in-Some.ensures.is);
     }
 
 pub returns-in-Err : goal.returns-in-Err
 returns-in-Err c =
     let mem : List ℕ = c.args.memory.now in
     record {
-      is = (
-        (c.in-Some.member, c.in-Some.ensures.is),
-        subst (λ (e : Event). Called mem e mem (refused 1 c.in-Err.place)) c.in-Err.ensures.is
-            (called-unreadable mem c.in-Err.place),
-      );
+      is = subst (λ (e : Event). Called mem e mem (refused 1 c.in-Err.place)) c.in-Err.ensures.is
+          (called-unreadable mem c.in-Err.place);
+      held = (c.in-Some.member, c.in-Some.ensures.is);
     }
