@@ -10,9 +10,8 @@ ghost use Rattle.wire.specs.Meaning.{refusal_number, refusal_of, said_of, agreed
 
 use crate::Vote;
 use crate::events::{room, whole};
-use crate::parts::{read_number, read_value, write_number, write_value};
 use crate::votes::{read_vote, write_vote};
-use values::Value;
+use values::{Value, read_number, read_value, write_number, write_value};
 
 #[derive(Clone, Copy, PartialEq)]
 pub enum Refusal {

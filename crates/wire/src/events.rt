@@ -4,10 +4,9 @@ ghost use Rattle.protocol.specs.Programs.{readable};
 ghost use Rattle.wire.specs.Bytes.{event_bytes, event_in, sized, Written};
 ghost use Rattle.wire.specs.Meaning.{event_of, event_read};
 
-use crate::parts::{read_value, write_value};
 use crate::votes::{read_proposal, read_vote, write_proposal, write_vote};
 use crate::{Proposal, Vote};
-use values::Value;
+use values::{Value, read_value, write_value};
 
 #[derive(Clone, Copy, PartialEq)]
 pub enum Event {

@@ -3,7 +3,6 @@
 
 mod answers;
 mod events;
-mod parts;
 mod stands;
 mod votes;
 

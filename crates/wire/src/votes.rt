@@ -5,8 +5,7 @@ ghost use Rattle.protocol.specs.Programs.{readable};
 ghost use Rattle.wire.specs.Bytes.{vote_bytes, vote_in, proposal_bytes, proposal_in};
 ghost use Rattle.wire.specs.Meaning.{kind_number, kind_of, vote_of, proposal_of};
 
-use crate::parts::{read_number, read_value, write_number, write_value};
-use values::Value;
+use values::{Value, read_number, read_value, write_number, write_value};
 
 // The kinds that are known good. A vote from outside has its kind as a number, which may be another.
 #[derive(Clone, Copy, PartialEq)]
