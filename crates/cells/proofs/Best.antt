@@ -71,8 +71,7 @@ best_other o (b ∷ bs) p other = by (eqb b.period o.period) refl (best_other o 
 -- in a part of zeros nothing is proposed
 pub proposes_none : (l : Limits) (part : List ℕ) → ((i : ℕ) → get_or part i 0 ≡ 0) → Proposes l part []
 unfolding best_for
-proposes_none l part zeros =
-    record { entries = λ p some few. cond-true _ _ _ (eq-eqb _ 0 (zeros (seat p))); in_range = λ p out. refl }
+proposes_none l part zeros p some few = cond-true _ _ _ (eq-eqb _ 0 (zeros (seat p)))
 
 -- a period's proposal is as before if its places are
 pub same_proposal : (part now : List ℕ) (p q : ℕ) → 1 ≤ p → 1 ≤ q → Only (seat q) (seat q + 6) part now → (p ≡ q → ⊥) →
@@ -95,17 +94,12 @@ same_proposal part now p q some some' only other =
 pub proposes_more : (l : Limits) (part now : List ℕ) (o : Proposal) (os : List Proposal) → Proposes l part os →
     1 ≤ o.period → o.period ≤ l.periods → proposal_at now o.period ≡ better o (proposal_at part o.period) →
     Only (seat o.period) (seat o.period + 6) part now → Proposes l now (keep_best o os)
-proposes_more l part now o os h some few own only =
-    record {
-      entries = λ p low high.
-          ⊎_elim (λ e. subst (λ (q : ℕ). proposal_at now q ≡ best_for q (keep_best o os)) (sym e)
-          (own ∙ ap (better o) (h.entries o.period some few) ∙ sym (best_own o os)))
-          (λ other. same_proposal part now p o.period low some only other ∙ h.entries p low high
-          ∙ sym (best_other o os p other))
-          (cases_eq p o.period);
-      in_range = λ p out.
-          best_other o os p (λ e. out (omega (arith, e, some)) (omega (arith, e, few))) ∙ h.in_range p out;
-    }
+proposes_more l part now o os h some few own only p low high =
+    ⊎_elim (λ e. subst (λ (q : ℕ). proposal_at now q ≡ best_for q (keep_best o os)) (sym e)
+    (own ∙ ap (better o) (h o.period some few) ∙ sym (best_own o os)))
+    (λ other. same_proposal part now p o.period low some only other ∙ h p low high
+    ∙ sym (best_other o os p other))
+    (cases_eq p o.period)
 
 -- one of a lesser rank than was there, or the first, is the better
 pub better_new : (part : List ℕ) (o : Proposal) →

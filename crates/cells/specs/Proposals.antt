@@ -29,10 +29,9 @@ unfoldable pub best_for : ℕ → List Proposal → List Proposal
 best_for p [] = []
 best_for p (o ∷ os) = cond (o.period == p) (o ∷ []) (best_for p os)
 
--- the part has of each period the proposal that the list has, and the list has none for a period out of range
-pub record Proposes (l : Limits) (part : List ℕ) (os : List Proposal) : Type 0 where
-  pub entries : (p : ℕ) → 1 ≤ p → p ≤ l.periods → proposal_at part p ≡ best_for p os
-  pub in_range : (p : ℕ) → (1 ≤ p → p ≤ l.periods → ⊥) → best_for p os ≡ []
+-- the part has of each period the proposal that the list has
+abbrev pub Proposes : Limits → List ℕ → List Proposal → Type 0
+Proposes l part os = (p : ℕ) → 1 ≤ p → p ≤ l.periods → proposal_at part p ≡ best_for p os
 
 -- the protocol's proposal of one in range, and its limits
 abbrev pub valid_proposal : ValidProposal → Proposal

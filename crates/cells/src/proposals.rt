@@ -1,5 +1,5 @@
 // The best proposal of each period, and which proposals are in range.
-ghost use Rattle.std.specs.Prelude.{◌≡◌, ◌+◌, true, false, length, MatchOption};
+ghost use Rattle.std.specs.Prelude.{◌≡◌, ◌+◌, ◌≤◌, true, false, length, MatchOption};
 ghost use Rattle.limits.specs.Limits.{limits_of};
 ghost use Rattle.protocol.specs.Promises.{all};
 ghost use Rattle.protocol.specs.Member.{in_range, got_proposal, keep_best, proposed};
@@ -27,15 +27,14 @@ impl ValidProposal {
     }
 }
 
-// The value proposed for a period; none is for one out of range.
+// The value proposed for a period.
 pub fn proposed_for(proposals: &[u64], limits: Limits, period: u64) -> Option<Value>
     requires proposals { length proposals.now ≡ proposals_size (limits_of all limits) }
+    requires some { 1 ≤ period }
+    requires few { period ≤ limits.periods }
     ensures is { (os : Proposals) → Proposes (limits_of all limits) proposals.now os →
         listed result ≡ proposed period os }
 {
-    if period < 1 || period > limits.periods {
-        return None;
-    }
     let start = 8 * (period - 1) as usize;
     if proposals[start] == 0 {
         return None;

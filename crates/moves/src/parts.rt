@@ -113,6 +113,8 @@ pub(crate) fn is_certified(memory: &[u64], limits: Limits, value: Value) -> bool
 // The value proposed for a period.
 pub(crate) fn proposed_of(memory: &[u64], limits: Limits, period: u64) -> Option<Value>
     requires long { memory_size (limits_of all limits) ≤ length memory.now }
+    requires some { 1 ≤ period }
+    requires few { period ≤ limits.periods }
     ensures is { (os : Proposals) →
         Proposes (limits_of all limits) (part of-proposals (limits_of all limits) memory.now) os →
         listed result ≡ proposed period os }

@@ -36,6 +36,7 @@ impl Member {
     // What its soft vote is for: what is proposed, if it is free, else its starting value.
     fn soft_value(self, memory: &[u64]) -> Option<Value>
         requires long { memory_size (lim self) ≤ length memory.now }
+        requires few_periods { self.period ≤ self.limits.periods }
         ensures is { (m : OfMember) → Stands self memory.now m → listed result ≡ soft_value m }
     {
         if self.free {
