@@ -1,10 +1,10 @@
 #!/usr/bin/env bash
 # Joins four nodes on this machine by named pipes: what one says as a `vote` line, the others read. Value 5 is offered to
-# all with its block, time is up once, and they agree. Build them first: `rt check node`.
+# all with its block, time is up once, and they agree. Build them first: `rt run` in crates/node.
 set -euo pipefail
 cd "$(dirname "$0")/.."
-node=target/bin/node
-[ -x "$node" ] || { echo "build the node first: rt check node" >&2; exit 1; }
+node=crates/node/out/node
+[ -x "$node" ] || { echo "build the node first: (cd crates/node && rt run)" >&2; exit 1; }
 dir=$(mktemp -d)
 trap 'kill $(jobs -p) 2>/dev/null || true; rm -rf "$dir"' EXIT
 for i in 0 1 2 3; do

@@ -8,6 +8,7 @@ use lines::{AnswerLines, read_line};
 use member::{OpenError, call, open};
 use std::env;
 use std::io::Read;
+use std::process::ExitCode;
 use text::number;
 use wire::write_event;
 
@@ -163,7 +164,7 @@ fn why(error: OpenError) -> anyhow::Error {
         OpenError::NotMember => "ME is not below MEMBERS",
         OpenError::TooShort(_) => "the memory is too short",
     };
-    line.into()
+    anyhow!("{line}")
 }
 
 fn run(rt: &HostRuntime) -> anyhow::Result<()> {
@@ -192,12 +193,12 @@ fn run(rt: &HostRuntime) -> anyhow::Result<()> {
 }
 
 // A refusal to start is one line on standard error, and status 1.
-fn main(rt: HostRuntime) -> anyhow::Result<()> {
+fn main(rt: HostRuntime) -> ExitCode {
     match run(&rt) {
-        Ok(()) => Ok(()),
+        Ok(()) => ExitCode::SUCCESS,
         Err(error) => {
-            eprintln!(rt; "node: {error}")?;
-            Err(error)
+            let _ = eprintln!(rt; "node: {error}");
+            ExitCode::FAILURE
         }
     }
 }

@@ -1,76 +1,69 @@
-// Plays networks from files: `play [--memory BYTES] FILE...`.
+// Plays a network from a file: `play FILE`.
 #![tactic(auto)]
 
-mod files;
-mod header;
-mod plays;
+use anyhow::{Context, anyhow};
+use limits::Limits;
+use std::process::ExitCode;
+use std::{env, fs};
+use text::{cut, read_network};
 
-use crate::plays::{LENT, play};
-use anyhow::anyhow;
-use std::env;
-use text::number;
-
-// What is asked for: the files to play, and what is lent for each.
-#[derive(Drop)]
-struct Asked {
-    lent: u64,
-    files: env::Args,
-    first: String,
-}
-
-fn next(args: &mut env::Args) -> anyhow::Result<String> {
-    match args.next() {
-        Some(word) => Ok(word),
-        None => Err(anyhow!("usage: play [--memory BYTES] FILE...")),
+// The first line of a text, without its line feed.
+fn first_line(text: &[u8]) -> &[u8] {
+    match cut(text, b'\n') {
+        Some((line, _)) => line,
+        None => text,
     }
 }
 
-fn arguments(rt: &HostRuntime) -> anyhow::Result<Asked> {
+fn show(rt: &HostRuntime, limits: Limits) -> anyhow::Result<()> {
+    let members = limits.members;
+    let periods = limits.periods;
+    let steps = limits.steps;
+    let blocks = limits.blocks;
+    let quorum = limits.quorum();
+    let memory = limits.memory_bytes();
+    println!(rt;
+        "network {members} {periods} {steps} {blocks}: quorum {quorum}, memory {memory} bytes a member"
+    )?;
+    Ok(())
+}
+
+fn read(rt: &HostRuntime, path: &str) -> anyhow::Result<Vec<u8>> {
+    fs::read(rt, path).context(format_args!("cannot read {path}"))
+}
+
+fn play(rt: &HostRuntime, path: &str) -> anyhow::Result<()> {
+    let text = read(rt, path)?;
+    if text.len() == 0 {
+        return Err(anyhow!(
+            "the file is empty: its first line is 'network MEMBERS PERIODS STEPS BLOCKS'"
+        ));
+    }
+    match read_network(first_line(text.as_slice())) {
+        Ok(limits) => show(rt, limits),
+        Err(error) => Err(anyhow!("line 1: {error}")),
+    }
+}
+
+fn run(rt: &HostRuntime) -> anyhow::Result<()> {
     let mut args = env::args(rt)?;
     let _ = args.next();
-    let first = next(&mut args)?;
-    if first.as_str() != "--memory" {
-        return Ok(Asked {
-            lent: LENT,
-            files: args,
-            first,
-        });
-    }
-    let bytes = next(&mut args)?;
-    let Some(lent) = number(bytes.as_bytes()) else {
-        return Err(anyhow!("BYTES is no number below 2^64 in decimal without zeros before it"));
+    let Some(path) = args.next() else {
+        return Err(anyhow!("usage: play FILE"));
     };
-    let first = next(&mut args)?;
-    Ok(Asked {
-        lent,
-        files: args,
-        first,
-    })
-}
-
-// A refusal names its file, so that it is plain which of several it was.
-fn play_file(rt: &HostRuntime, path: &str, lent: u64) -> anyhow::Result<()> {
-    match play(rt, path, lent) {
-        Ok(()) => Ok(()),
-        Err(error) => {
-            eprintln!(rt; "play: {path}: {error}")?;
-            Err(error)
-        }
+    if let Some(_) = args.next() {
+        return Err(anyhow!("usage: play FILE"));
     }
+    play(rt, path.as_str())
 }
 
 // A refusal is one line on standard error, and status 1.
-fn main(rt: HostRuntime) -> anyhow::Result<()> {
-    let Asked { lent, files, first } = match arguments(&rt) {
-        Ok(asked) => asked,
+fn main(rt: HostRuntime) -> ExitCode {
+    match run(&rt) {
+        Ok(()) => ExitCode::SUCCESS,
         Err(error) => {
-            eprintln!(rt; "play: {error}")?;
-            return Err(error);
+            let _ = eprintln!(rt; "play: {error:#}");
+            ExitCode::FAILURE
         }
-    };
-    play_file(&rt, first.as_str(), lent)?;
-    for path in files {
-        play_file(&rt, path.as_str(), lent)?;
     }
-    Ok(())
 }

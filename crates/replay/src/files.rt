@@ -1,15 +1,14 @@
 // A file that is read whole, if it is not too long.
+use anyhow::anyhow;
 use std::fs::File;
 use std::io::Read;
 
-fn unread(rt: &HostRuntime, error: anyhow::Error) -> anyhow::Result<Vec<u8>> {
-    let line = format!(in rt.alloc(); "it cannot be read: {error}")?;
-    Err(line.into())
+fn unread(error: anyhow::Error) -> anyhow::Result<Vec<u8>> {
+    Err(anyhow!("it cannot be read: {error}"))
 }
 
-fn too_long(rt: &HostRuntime, most: u64) -> anyhow::Result<Vec<u8>> {
-    let line = format!(in rt.alloc(); "it has more than {most} bytes: --memory lends more")?;
-    Err(line.into())
+fn too_long(most: u64) -> anyhow::Result<Vec<u8>> {
+    Err(anyhow!("it has more than {most} bytes: --memory lends more"))
 }
 
 // One part more of a file; false at its end.
@@ -24,17 +23,17 @@ fn read_part(file: &mut File, text: &mut Vec<u8>) -> anyhow::Result<bool> {
 pub(crate) fn read_file(rt: &HostRuntime, path: &str, most: u64) -> anyhow::Result<Vec<u8>> {
     let mut file = match File::open(rt, path) {
         Ok(file) => file,
-        Err(error) => return unread(rt, error.into()),
+        Err(error) => return unread(error.into()),
     };
     let mut text = Vec::new(rt.alloc());
     for _ in 0..u64::MAX {
         match read_part(&mut file, &mut text) {
             Ok(true) => {}
             Ok(false) => break,
-            Err(error) => return unread(rt, error),
+            Err(error) => return unread(error),
         }
         if text.len() as u64 > most {
-            return too_long(rt, most);
+            return too_long(most);
         }
     }
     Ok(text)

@@ -22,10 +22,9 @@ fn begin(rt: &HostRuntime, header: Header, lent: u64) -> anyhow::Result<Network>
         Err(BeginError::TooManyFaulty) => Err(anyhow!("a third or more of the members are faulty")),
         Err(BeginError::TooShort(numbers)) => {
             let bytes = numbers.saturating_mul(8);
-            let line = format!(in rt.alloc();
+            Err(anyhow!(
                 "the honest members need {bytes} bytes of memory, and {lent} are lent: --memory lends more"
-            )?;
-            Err(line.into())
+            ))
         }
     }
 }
@@ -89,10 +88,7 @@ pub(crate) fn play(rt: &HostRuntime, path: &str, lent: u64) -> anyhow::Result<()
     };
     let header = match read_header(&mut script) {
         Ok(header) => header,
-        Err(error) => {
-            let line = format!(in rt.alloc(); "{error}")?;
-            return Err(line.into());
-        }
+        Err(error) => return Err(anyhow!("{error}")),
     };
     let mut network = begin(rt, header, lent)?;
     play_lines(rt, &mut network, script)?;
