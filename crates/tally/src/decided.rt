@@ -6,26 +6,15 @@ ghost use Rattle.protocol.specs.Vote.{cert, has_quorum};
 ghost use Rattle.protocol.specs.Member.{chosen_in};
 ghost use Rattle.values.specs.Digits.{number_of};
 ghost use Rattle.cells.specs.Cells.{listed};
+ghost use Rattle.cells.specs.Blocks.{blocks_in};
 ghost use Rattle.tally.specs.Layout.{votes_size};
 ghost use Rattle.tally.specs.Votes.{Votes, Holds, certified_by};
-ghost use Rattle.cells.specs.Blocks.{blocks_in};
 
-use super::rows::{CERT, SOFT, majority, quorum_in, row};
+use super::rows::{CERT, SOFT, majority, row};
+use super::slots::quorum_for;
 use cells::has_block;
 use limits::Limits;
 use values::Value;
-
-// Is a quorum of a period's soft votes, or of its cert votes, for this value?
-fn quorum_for(votes: &[u64], limits: Limits, kind: u64, period: u64, value: Value) -> bool
-    requires votes { length votes.now ≡ votes_size (limits_of all limits) }
-    requires kind { kind ≤ cert }
-    requires some { 1 ≤ period }
-    requires few { period ≤ limits.periods }
-    ensures is { (vs : Votes) → Holds (limits_of all limits) votes.now vs →
-        result ≡ has_quorum (limits_of all limits) kind period 0 (number_of value.limbs) vs }
-{
-    quorum_in(votes, limits, row(limits, kind, period, 0), value)
-}
 
 // The value that a quorum of soft votes of the period is for, if its block is among the first `count`.
 pub fn chosen(
@@ -44,10 +33,21 @@ pub fn chosen(
         return None;
     }
     let value = majority(votes, limits, row(limits, SOFT, period, 0));
-    if quorum_for(votes, limits, SOFT, period, value) && has_block(blocks, count, value) {
+    if quorum_for(votes, limits, SOFT, period, 0, value) && has_block(blocks, count, value) {
         return Some(value);
     }
     None
+}
+
+// Is a quorum certain of this value in this period?
+pub fn certified_in(votes: &[u64], limits: Limits, period: u64, value: Value) -> bool
+    requires votes { length votes.now ≡ votes_size (limits_of all limits) }
+    requires some { 1 ≤ period }
+    requires few { period ≤ limits.periods }
+    ensures is { (vs : Votes) → Holds (limits_of all limits) votes.now vs →
+        result ≡ has_quorum (limits_of all limits) cert period 0 (number_of value.limbs) vs }
+{
+    quorum_for(votes, limits, CERT, period, 0, value)
 }
 
 // Is a quorum certain of this value in some period?
@@ -57,7 +57,7 @@ pub fn certified(votes: &[u64], limits: Limits, value: Value) -> bool
         result ≡ certified_by (limits_of all limits) (number_of value.limbs) limits.periods vs }
 {
     for before in 0..limits.periods {
-        if quorum_for(votes, limits, CERT, before + 1, value) {
+        if certified_in(votes, limits, before + 1, value) {
             return true;
         }
     }

@@ -1,14 +1,18 @@
-// Votes in lent memory: heard once, counted.
+// Votes, proposals and blocks in lent memory: heard once, counted.
 #![tactic(auto)]
 
+pub mod by_limits;
 mod decided;
 mod ranges;
 mod rows;
 mod sizes;
+mod slots;
 mod valid;
 mod votes;
 
-pub use decided::{certified, chosen};
-pub use sizes::votes_size;
+pub use by_limits::{add_block, keep};
+pub use cells::{clear, has_block, proposed_for, put_value, value_at};
+pub use decided::{certified, certified_in, chosen};
+pub use sizes::{blocks_size, proposals_size, votes_size};
 pub use valid::ValidVote;
 pub use votes::{count, has_heard, has_quorum, hear, taken, voted_in};

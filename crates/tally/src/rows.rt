@@ -1,14 +1,14 @@
 // Rows of entries: the votes of one slot, one entry for each member, side by side.
-ghost use Rattle.std.specs.Prelude.{◌≡◌, ℕ, ◌+◌, ◌*◌, ◌≤◌, true, [], ◌∷◌, length, ◌≢◌, nat_le};
+ghost use Rattle.std.specs.Prelude.{◌≡◌, ℕ, ◌+◌, ◌*◌, ◌≤◌, true, length, ◌≢◌, nat_le};
 ghost use Rattle.limits.specs.Limits.{limits_of};
 ghost use Rattle.protocol.specs.Promises.{all};
 ghost use Rattle.protocol.specs.Vote.{quorum};
 ghost use Rattle.values.specs.Digits.{number_of};
-ghost use Rattle.cells.specs.Cells.{listed, Only};
+ghost use Rattle.cells.specs.Cells.{listed};
 ghost use Rattle.tally.specs.Layout.{slot_place, row_of, slot_in_range};
 ghost use Rattle.tally.specs.Votes.{heard_at, is_only, row_count};
 
-use cells::{put_value, value_at};
+use cells::value_at;
 use limits::Limits;
 use values::Value;
 use wire::Kind;
@@ -51,17 +51,6 @@ pub(crate) fn heard_at(votes: &[u64], at: u64) -> Option<Value>
         return None;
     }
     Some(value_at(votes, start + 1))
-}
-
-// Writes what was heard at an entry.
-pub(crate) fn put_heard(votes: &mut [u64], at: u64, value: Value)
-    requires within { 8 * at + 8 ≤ length votes.old }
-    ensures is { heard_at votes.new at ≡ number_of value.limbs ∷ [] }
-    ensures only { Only (8 * at) (8 * at + 5) votes.old votes.new }
-{
-    let start = 8 * at as usize;
-    votes[start] = 1;
-    put_value(votes, start + 1, value);
 }
 
 // Was this value heard at an entry?

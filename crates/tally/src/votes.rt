@@ -7,9 +7,11 @@ ghost use Rattle.tally.specs.Layout.{row_of, votes_size};
 ghost use Rattle.tally.specs.Valid.{valid_vote, vote_limits};
 ghost use Rattle.tally.specs.Votes.{entry_of, voted, Votes, Holds};
 
-use super::rows::{count_in, heard_at, put_heard, quorum_in, row};
+use super::rows::{count_in, row};
+use super::slots::{heard_from, put_heard, quorum_for};
 use super::valid::ValidVote;
 use values::Value;
+use wire::Vote;
 
 impl ValidVote {
     // The first entry of its slot.
@@ -40,7 +42,14 @@ pub fn voted_in(votes: &[u64], vote: ValidVote) -> Option<Value>
     ensures is { (vs : Votes) → Holds (vote_limits vote) votes.now vs →
         listed result ≡ voted vote.vote.kind vote.vote.period vote.vote.step vote.vote.from vs }
 {
-    heard_at(votes, vote.entry())
+    let Vote {
+        kind,
+        period,
+        step,
+        from,
+        value: _,
+    } = vote.vote;
+    heard_from(votes, vote.limits, kind, period, step, from)
 }
 
 // Has the vote's member a vote in its slot already?
@@ -95,5 +104,12 @@ pub fn has_quorum(votes: &[u64], vote: ValidVote) -> bool
         result ≡ has_quorum (vote_limits vote) vote.vote.kind vote.vote.period vote.vote.step
         (value_of vote.vote.value) vs }
 {
-    quorum_in(votes, vote.limits, vote.row(), vote.vote.value)
+    let Vote {
+        kind,
+        period,
+        step,
+        value,
+        from: _,
+    } = vote.vote;
+    quorum_for(votes, vote.limits, kind, period, step, value)
 }

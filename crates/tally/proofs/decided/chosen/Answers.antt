@@ -30,6 +30,15 @@ majority-value-requires c =
     let within = row_within l 0 c.args.period 0 good c.args.limits.some_member in
     record { within = omega (arith, within, c.row.ensures.is, c.requires.votes) }
 
+pub quorum_for-requires : goal.quorum_for-requires
+quorum_for-requires c =
+    let l = limits_of all c.args.limits in
+    record {
+      votes = c.requires.votes;
+      slot = alone_good l 0 c.args.period (omega arith) c.if-period-lt1.false
+          c.if-period-limits.false;
+    }
+
 pub returns-then-has_block : goal.returns-then-has_block
 returns-then-has_block c =
     let l = limits_of all c.args.limits in

@@ -1,5 +1,5 @@
 use Rattle.tally.proofs.Heard.{heard_written, heard_only}
-use Rattle.tally.proofs.rows.put_heard.Goals as goal
+use Rattle.tally.proofs.slots.put_heard.Goals as goal
 
 pub returns : goal.returns
 returns c =
