@@ -10,16 +10,16 @@ mod hex;
 #[cfg(test)]
 mod limit_lines;
 #[cfg(test)]
-mod member;
+mod member_runs;
 #[cfg(test)]
-mod network;
+mod network_sizes;
 #[cfg(test)]
 mod opens;
 #[cfg(test)]
 mod refused;
 #[cfg(test)]
-mod tally;
+mod tally_rows;
 #[cfg(test)]
-mod values;
+mod value_bytes;
 #[cfg(test)]
-mod wire;
+mod wire_bytes;

@@ -42,9 +42,12 @@ fn no_event(rt: &impl Abort, bytes: &[u8], place: u64) -> Result<(), Fail> {
 #[test]
 fn no_events(rt: HostRuntime) -> Result<(), Fail> {
     no_event(&rt, b"", 0)?;
-    no_event(&rt, &[4], 0).note("unknown first byte")?;
-    no_event(&rt, &[0; 64], 64).note("too short")?;
-    no_event(&rt, &[0; 66], 65).note("too long")
+    // unknown first byte
+    no_event(&rt, &[4], 0)?;
+    // too short
+    no_event(&rt, &[0; 64], 64)?;
+    // too long
+    no_event(&rt, &[0; 66], 65)
 }
 
 // A vote that is out of range.
@@ -56,17 +59,28 @@ fn no_vote(rt: &impl Abort, vote: Vote) -> Result<(), Fail> {
 #[test]
 fn out_of_range(rt: HostRuntime) -> Result<(), Fail> {
     let soft = vote(Kind::Soft, 1, 0, 5, 1);
-    no_vote(&rt, Vote { kind: 4, ..soft }).note("no kind")?;
-    no_vote(&rt, Vote { period: 0, ..soft }).note("no period 0")?;
-    no_vote(&rt, Vote { period: 3, ..soft }).note("a period above the limit")?;
-    no_vote(&rt, Vote { step: 1, ..soft }).note("a soft vote of step 1")?;
-    no_vote(&rt, Vote { from: 4, ..soft }).note("no member")?;
-    no_vote(&rt, vote(Kind::Cert, 1, 1, 5, 1)).note("a cert vote of step 1")?;
-    no_vote(&rt, vote(Kind::Next, 1, 0, 5, 1)).note("a next vote of step 0")?;
-    no_vote(&rt, vote(Kind::Next, 1, 1, 5, 1)).note("a next vote of step 1")?;
-    no_vote(&rt, vote(Kind::Next, 1, 4, 5, 1)).note("a step above the limit")?;
-    no_vote(&rt, vote(Kind::NextNone, 1, 4, 0, 1)).note("a step above the limit, with none")?;
-    no_vote(&rt, vote(Kind::NextNone, 1, 2, 5, 1)).note("a next-none vote with a value")
+    // no kind
+    no_vote(&rt, Vote { kind: 4, ..soft })?;
+    // no period 0
+    no_vote(&rt, Vote { period: 0, ..soft })?;
+    // a period above the limit
+    no_vote(&rt, Vote { period: 3, ..soft })?;
+    // a soft vote of step 1
+    no_vote(&rt, Vote { step: 1, ..soft })?;
+    // no member
+    no_vote(&rt, Vote { from: 4, ..soft })?;
+    // a cert vote of step 1
+    no_vote(&rt, vote(Kind::Cert, 1, 1, 5, 1))?;
+    // a next vote of step 0
+    no_vote(&rt, vote(Kind::Next, 1, 0, 5, 1))?;
+    // a next vote of step 1
+    no_vote(&rt, vote(Kind::Next, 1, 1, 5, 1))?;
+    // a step above the limit
+    no_vote(&rt, vote(Kind::Next, 1, 4, 5, 1))?;
+    // a step above the limit, with none
+    no_vote(&rt, vote(Kind::NextNone, 1, 4, 0, 1))?;
+    // a next-none vote with a value
+    no_vote(&rt, vote(Kind::NextNone, 1, 2, 5, 1))
 }
 
 #[test]
@@ -74,7 +88,8 @@ fn proposals_out_of_range(rt: HostRuntime) -> Result<(), Fail> {
     let mut memory = opened()?;
     refuses(&rt, &mut memory, proposal(0, 5), Refusal::OutOfRange)?;
     refuses(&rt, &mut memory, proposal(3, 5), Refusal::OutOfRange)?;
-    quiet(&rt, &mut memory, proposal(2, 5)).note("the last period")
+    // the last period
+    quiet(&rt, &mut memory, proposal(2, 5))
 }
 
 // The edges that are in range, each of another member.
@@ -101,48 +116,50 @@ fn agreed_before(rt: HostRuntime) -> Result<(), Fail> {
     refuses(&rt, &mut memory, Event::Timeout, Refusal::AgreedBefore)?;
     refuses(&rt, &mut memory, block(6), Refusal::AgreedBefore)?;
     refuses(&rt, &mut memory, proposal(1, 5), Refusal::AgreedBefore)?;
-    refuses(&rt, &mut memory, proposal(0, 5), Refusal::OutOfRange).note("2 comes before 3")?;
+    // 2 comes before 3
+    refuses(&rt, &mut memory, proposal(0, 5), Refusal::OutOfRange)?;
     refuses(
         &rt,
         &mut memory,
         Event::Vote(vote(Kind::Soft, 1, 0, 5, 1)),
         Refusal::AgreedBefore,
     )?;
+    // 3 comes before 4
     refuses(
         &rt,
         &mut memory,
         Event::Vote(vote(Kind::Soft, 1, 0, 5, 0)),
         Refusal::AgreedBefore,
     )
-    .note("3 comes before 4")
 }
 
 #[test]
 fn voted_before(rt: HostRuntime) -> Result<(), Fail> {
     let mut memory = opened()?;
     hears(&rt, &mut memory, vote(Kind::Soft, 1, 0, 5, 1))?;
+    // again
     refuses(
         &rt,
         &mut memory,
         Event::Vote(vote(Kind::Soft, 1, 0, 5, 1)),
         Refusal::VotedBefore,
-    )
-    .note("again")?;
+    )?;
+    // another value
     refuses(
         &rt,
         &mut memory,
         Event::Vote(vote(Kind::Soft, 1, 0, 6, 1)),
         Refusal::VotedBefore,
-    )
-    .note("another value")?;
+    )?;
+    // its own name
     refuses(
         &rt,
         &mut memory,
         Event::Vote(vote(Kind::Soft, 1, 0, 5, 0)),
         Refusal::VotedBefore,
-    )
-    .note("its own name")?;
-    hears(&rt, &mut memory, vote(Kind::Cert, 1, 0, 6, 1)).note("another slot")
+    )?;
+    // another slot
+    hears(&rt, &mut memory, vote(Kind::Cert, 1, 0, 6, 1))
 }
 
 #[test]
@@ -180,6 +197,8 @@ fn no_more_blocks(rt: HostRuntime) -> Result<(), Fail> {
     quiet(&rt, &mut memory, block(5))?;
     quiet(&rt, &mut memory, block(6))?;
     refuses(&rt, &mut memory, block(7), Refusal::NoMoreBlocks)?;
-    quiet(&rt, &mut memory, block(5)).note("it is here already")?;
-    quiet(&rt, &mut memory, block(6)).note("it is here already")
+    // it is here already
+    quiet(&rt, &mut memory, block(5))?;
+    // it is here already
+    quiet(&rt, &mut memory, block(6))
 }

@@ -1,5 +1,6 @@
 -- What std writes of numbers, with spaces between them, is the text of a line.
-use Rattle.std.proofs.Common.{◌≡◌, ℕ, ◌^◌, ◌<◌, List, [], ◌∷◌, ◌++◌, codes, decimal, refl, ap, ◌∙◌, append_assoc, append-nil}
+use Rattle.std.proofs.Common.{◌≡◌, ℕ, ◌^◌, ◌<◌, List, [], ◌∷◌, ◌++◌, codes, decimal, refl, ap, ◌∙◌, append_assoc}
+use Rattle.std.proofs.Common.{append-nil}
 use Rattle.protocol.specs.Vote.{Vote, Proposal}
 use Rattle.protocol.specs.Member.{got_vote, got_proposal, got_block, timeout}
 use Rattle.lines.specs.Between.{between, followed}

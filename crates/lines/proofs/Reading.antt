@@ -1,5 +1,6 @@
 -- What the words of a line say, and that other words say nothing.
-use Rattle.std.proofs.Common.{◌≡◌, ℕ, ◌^◌, ◌<◌, true, List, [], ◌∷◌, Some, None, codes, decimal, Option, ap, ◌∙◌, arith, MatchOption}
+use Rattle.std.proofs.Common.{◌≡◌, ℕ, ◌^◌, ◌<◌, true, List, [], ◌∷◌, Some, None, codes, decimal, Option, ap, ◌∙◌, arith}
+use Rattle.std.proofs.Common.{MatchOption}
 use Rattle.std.proofs.lemmas.Bool.{and_parts, ltb-true}
 use Rattle.text.specs.Words.{words}
 use Rattle.protocol.specs.Vote.{Vote, Proposal}

@@ -1,5 +1,6 @@
 -- Which line names a faulty member, and which delivers an event to whom. Assumes nothing: these are definitions.
-use Rattle.std.specs.Prelude.{◌≡◌, ℕ, ◌^◌, ◌<◌, true, List, [], ◌∷◌, Some, None, Ok, Err, codes, Option, Result, ◌≢◌, slice_index_or}
+use Rattle.std.specs.Prelude.{◌≡◌, ℕ, ◌^◌, ◌<◌, true, List, [], ◌∷◌, Some, None, Ok, Err, codes, Option, Result, ◌≢◌}
+use Rattle.std.specs.Prelude.{slice_index_or}
 use Rattle.text.specs.Words.{words}
 use Rattle.protocol.specs.Member.{Event, is_event}
 use Rattle.protocol.specs.Programs.{readable}

@@ -14,4 +14,6 @@ returns-in-None g c =
 pub returns-in-Some : goal.returns-in-Some
 returns-in-Some g c =
     let is = agreed_shown (value_of c.in-Some.value) ∙ ap (λ a. agreed_text (agreed_of a)) (sym c.in-Some.is) in
-    record { is = λ plain ok. has_written_of_eq g.W.Write.write_str_gives _ _ _ _ is (c.write-in-Some.ensures.writes plain ok) }
+    record {
+      is = λ plain ok. has_written_of_eq g.W.Write.write_str_gives _ _ _ _ is (c.write-in-Some.ensures.writes plain ok);
+    }

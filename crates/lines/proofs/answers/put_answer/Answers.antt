@@ -15,7 +15,9 @@ returns-in-Refused g c =
     let sep = c.args.sep.now in
     let is = one_between sep (refused_text (refusal_number c.in-Refused.refusal) c.in-Refused.place)
     ∙ ap (answer_text sep) (sym c.in-Refused.is) in
-    record { is = λ plain ok. has_written_of_eq g.W.Write.write_str_gives _ _ _ _ is (c.put_refused.ensures.is plain ok) }
+    record {
+      is = λ plain ok. has_written_of_eq g.W.Write.write_str_gives _ _ _ _ is (c.put_refused.ensures.is plain ok);
+    }
 
 pub returns-in_ok-put_said-in-Says : goal.returns-in_ok-put_said-in-Says
 returns-in_ok-put_said-in-Says g c =

@@ -15,13 +15,18 @@ returns-in-Nothing g c =
     let took = g.W.Write.write_str_gives in
     let sep = c.args.sep.now in
     let is = none-followed sep ∙ ap (said_text sep) (sym c.in-Nothing.is) in
-    record { is = λ plain _. has_written_of_eq took _ _ _ _ is (record { wrote = writes_in_calls_nil took _; plain = plain }) }
+    record {
+      is = λ plain _.
+          has_written_of_eq took _ _ _ _ is (record { wrote = writes_in_calls_nil took _; plain = plain });
+    }
 
 pub returns-in-One : goal.returns-in-One
 returns-in-One g c =
     let sep = c.args.sep.now in
     let is = one_followed sep (vote_text (vote_of c.in-One.vote)) ∙ ap (said_text sep) (sym c.in-One.is) in
-    record { is = λ plain ok. has_written_of_eq g.W.Write.write_str_gives _ _ _ _ is (c.put_followed.ensures.is plain ok) }
+    record {
+      is = λ plain ok. has_written_of_eq g.W.Write.write_str_gives _ _ _ _ is (c.put_followed.ensures.is plain ok);
+    }
 
 pub returns-in_ok-put_followed-in-Two : goal.returns-in_ok-put_followed-in-Two
 returns-in_ok-put_followed-in-Two g c =

@@ -49,7 +49,8 @@ fn one_certain(
     says(rt, one, Event::Timeout, vote(Kind::NextNone, 1, 2, 0, 1))?;
     says(rt, two, Event::Timeout, vote(Kind::NextNone, 1, 2, 0, 2))?;
     says(rt, zero, Event::Timeout, vote(Kind::Next, 1, 2, 5, 0))?;
-    hears(rt, one, vote(Kind::Soft, 1, 0, 5, 2)).note("too late to be certain")?;
+    // too late to be certain
+    hears(rt, one, vote(Kind::Soft, 1, 0, 5, 2))?;
     stands(rt, zero, 1, 2, None)?;
     stands(rt, one, 1, 2, None)
 }
@@ -65,7 +66,8 @@ fn two_go_on(
     stands(rt, two, 1, 2, None)?;
     hears(rt, two, vote(Kind::NextNone, 1, 2, 0, 3))?;
     stands(rt, two, 2, 0, None)?;
-    quiet(rt, two, Event::Timeout).note("nothing is proposed in period 2")?;
+    // nothing is proposed in period 2
+    quiet(rt, two, Event::Timeout)?;
     stands(rt, two, 2, 1, None)?;
     says(rt, one, Event::Timeout, vote(Kind::Next, 1, 3, 5, 1))?;
     says(rt, zero, Event::Timeout, vote(Kind::Next, 1, 3, 5, 0))?;
@@ -75,7 +77,8 @@ fn two_go_on(
     stands(rt, one, 2, 0, Some(5))?;
     says(rt, one, Event::Timeout, vote(Kind::Soft, 2, 0, 5, 1))?;
     stands(rt, one, 2, 1, Some(5))?;
-    hears(rt, zero, vote(Kind::Cert, 1, 0, 5, 3)).note("two of three")?;
+    // two of three
+    hears(rt, zero, vote(Kind::Cert, 1, 0, 5, 3))?;
     stands(rt, zero, 1, 3, None)
 }
 

@@ -1,4 +1,4 @@
-use Rattle.std.proofs.Common.{◌≡◌, ℕ, suc, ◌-◌, ◌≤◌, true, sym, refl, ap, ◌∙◌, arith}
+use Rattle.std.proofs.Common.{◌≡◌, ℕ, ◌-◌, true, ap, ◌∙◌, arith}
 use Rattle.limits.specs.Limits.{limits_of}
 use Rattle.protocol.specs.Promises.{all}
 use Rattle.protocol.specs.Vote.{Limits}
@@ -6,10 +6,11 @@ use Rattle.values.proofs.Limbs.{value_below}
 use Rattle.wire.specs.Meaning.{kind_number}
 use Rattle.tally.specs.Layout.{slot_in_range}
 use Rattle.tally.proofs.Index.{alone_good, onward-good, vote-good}
-use Rattle.examples.proofs.tally.at_place.Goals as goal
-use Rattle.examples.proofs.tally.at_place.Goals.{in-0, in-1, in-2-to-9, in_default}
+use Rattle.examples.proofs.tally_rows.at_place.Goals as goal
+use Rattle.examples.proofs.tally_rows.at_place.Goals.{in-0, in-1, in-2-to-9, in_default}
 
-slot_at : (l : Limits) (p k s k' s' : ℕ) → k ≡ k' → s ≡ s' → slot_in_range l k' p s' ≡ true → slot_in_range l k p s ≡ true
+slot_at : (l : Limits) (p k s k' s' : ℕ) → k ≡ k' → s ≡ s' → slot_in_range l k' p s' ≡ true →
+    slot_in_range l k p s ≡ true
 slot_at l p k s k' s' d e h = (λ i. slot_in_range l (d i) p (e i)) ∙ h
 
 pub invariant_of-result : goal.invariant_of-result
@@ -42,4 +43,4 @@ invariant_of-result c =
           (omega (arith, w.in_default)) (omega (arith, w.in_default, c.requires.steps, c.requires.place)))
     ] in
     let below = value_below x.limbs x.four x.fit in
-    (vote-good l _ slot c.requires.from below (λ _. c.zero.ensures.is), tt)
+    record { in_range = vote-good l _ slot c.requires.from below (λ _. c.zero.ensures.is) }

@@ -1,8 +1,10 @@
 // Rows of members with just a quorum and with one vote less, and every slot of the largest limits.
-ghost use Rattle.std.specs.Prelude.{◌≡◌, ◌<◌, ◌≤◌, length};
+ghost use Rattle.std.specs.Prelude.{◌≡◌, ◌<◌, ◌≤◌, true, length};
 ghost use Rattle.limits.specs.Limits.{limits_of};
 ghost use Rattle.protocol.specs.Promises.{all};
+ghost use Rattle.protocol.specs.Member.{vote_in_range};
 ghost use Rattle.tally.specs.Layout.{votes_size};
+ghost use Rattle.wire.specs.Meaning.{vote_of};
 
 use cells::clear;
 use limits::Limits;
@@ -20,6 +22,7 @@ fn value(last: u64) -> Value {
 fn soft(limits: Limits, last: u64, from: u64) -> ValidVote
     requires from { from < limits.members }
     ensures same { result.limits ≡ limits }
+    ensures good { vote_in_range (limits_of all limits) (vote_of result.vote) ≡ true }
 {
     let vote = Vote {
         kind: Kind::Soft.number(),
@@ -114,6 +117,7 @@ fn at_place(limits: Limits, period: u64, place: u64, from: u64) -> ValidVote
     requires place { place < 18 }
     requires from { from < limits.members }
     ensures same { result.limits ≡ limits }
+    ensures good { vote_in_range (limits_of all limits) (vote_of result.vote) ≡ true }
 {
     let (kind, step) = match place {
         0 => (Kind::Soft, 0),

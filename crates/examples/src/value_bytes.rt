@@ -1,12 +1,16 @@
 // A value's bytes, and bytes as a value.
 use crate::hex::unhex;
 use std::process::Abort;
-use values::Value;
+use values::{Value, read_value, write_value};
 
 // The value has these bytes, and these bytes are the value.
 fn check_value(rt: &impl Abort, value: Value, digits: &[u8]) {
     let mut bytes = [0; 32];
     assert_eq!(rt; unhex(digits, &mut bytes), 32);
+    let mut out = [255; 32];
+    write_value(&mut out, value);
+    assert_eq!(rt; out, bytes);
+    assert!(rt; read_value(&bytes) == value);
     assert_eq!(rt; value.to_le_bytes(), bytes);
     assert!(rt; Value::from_le_bytes(bytes) == value);
 }
