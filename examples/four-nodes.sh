@@ -4,7 +4,7 @@
 set -euo pipefail
 cd "$(dirname "$0")/.."
 node=crates/node/out/node
-[ -x "$node" ] || { echo "build the node first: (cd crates/node && rt run)" >&2; exit 1; }
+[ -x "$node" ] || { echo "build the node first: (cd crates/node && rt run -- 4 4 4 4 0 </dev/null)" >&2; exit 1; }
 dir=$(mktemp -d)
 trap 'kill $(jobs -p) 2>/dev/null || true; rm -rf "$dir"' EXIT
 for i in 0 1 2 3; do

@@ -5,7 +5,7 @@
 set -euo pipefail
 cd "$(dirname "$0")/.."
 node=crates/node/out/node
-[ -x "$node" ] || { echo "build the node first: (cd crates/node && rt run)" >&2; exit 1; }
+[ -x "$node" ] || { echo "build the node first: (cd crates/node && rt run -- 4 4 4 4 0 </dev/null)" >&2; exit 1; }
 mapfile -t args <crates/node/args
 "$node" "${args[@]}" <examples/node-long.stdin | cmp - examples/node-long.stdout
 echo "the node answered as stored"
