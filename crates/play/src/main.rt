@@ -1,10 +1,10 @@
 // Plays a network from a file: `play FILE`.
 #![tactic(auto)]
 
-use anyhow::{Context, anyhow};
+use anyhow::anyhow;
 use limits::Limits;
 use std::process::ExitCode;
-use std::{env, fs};
+use std::{env, fs, io};
 use text::{cut, read_network};
 
 // The first line of a text, without its line feed.
@@ -28,24 +28,39 @@ fn show(rt: &HostRuntime, limits: Limits) -> anyhow::Result<()> {
     Ok(())
 }
 
-fn read(rt: &HostRuntime, path: &str) -> anyhow::Result<Vec<u8>> {
-    fs::read(rt, path).context(format_args!("cannot read {path}"))
+// Why nothing is shown. An anyhow::Error keeps a short text, and a path has any length.
+#[derive(Drop)]
+enum PlayError {
+    Unread(String, io::Error),
+    Other(anyhow::Error),
 }
 
-fn play(rt: &HostRuntime, path: &str) -> anyhow::Result<()> {
-    let text = read(rt, path)?;
+impl From<anyhow::Error> for PlayError {
+    fn from(error: anyhow::Error) -> PlayError {
+        PlayError::Other(error)
+    }
+}
+
+fn read(rt: &HostRuntime, path: String) -> Result<Vec<u8>, PlayError> {
+    match fs::read(rt, path.as_str()) {
+        Ok(text) => Ok(text),
+        Err(error) => Err(PlayError::Unread(path, error)),
+    }
+}
+
+fn play(rt: &HostRuntime, text: &[u8]) -> anyhow::Result<()> {
     if text.len() == 0 {
         return Err(anyhow!(
             "the file is empty: its first line is 'network MEMBERS PERIODS STEPS BLOCKS'"
         ));
     }
-    match read_network(first_line(text.as_slice())) {
+    match read_network(first_line(text)) {
         Ok(limits) => show(rt, limits),
         Err(error) => Err(anyhow!("line 1: {error}")),
     }
 }
 
-fn run(rt: &HostRuntime) -> anyhow::Result<()> {
+fn argument(rt: &HostRuntime) -> anyhow::Result<String> {
     let mut args = env::args(rt)?;
     let _ = args.next();
     let Some(path) = args.next() else {
@@ -54,7 +69,21 @@ fn run(rt: &HostRuntime) -> anyhow::Result<()> {
     if let Some(_) = args.next() {
         return Err(anyhow!("usage: play FILE"));
     }
-    play(rt, path.as_str())
+    Ok(path)
+}
+
+fn run(rt: &HostRuntime) -> Result<(), PlayError> {
+    let path = argument(rt)?;
+    let text = read(rt, path)?;
+    play(rt, text.as_slice())?;
+    Ok(())
+}
+
+fn refuse(rt: &HostRuntime, error: PlayError) -> io::Result<()> {
+    match error {
+        PlayError::Unread(path, error) => eprintln!(rt; "play: cannot read {path}: {error}"),
+        PlayError::Other(error) => eprintln!(rt; "play: {error}"),
+    }
 }
 
 // A refusal is one line on standard error, and status 1.
@@ -62,7 +91,7 @@ fn main(rt: HostRuntime) -> ExitCode {
     match run(&rt) {
         Ok(()) => ExitCode::SUCCESS,
         Err(error) => {
-            let _ = eprintln!(rt; "play: {error:#}");
+            let _ = refuse(&rt, error);
             ExitCode::FAILURE
         }
     }
