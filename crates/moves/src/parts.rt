@@ -16,7 +16,7 @@ ghost use Rattle.moves.specs.Parts.{of-votes, of-proposals, of_blocks, PutBlock}
 
 use cells::{ValidProposal, add_block, has_block, keep, proposed_for};
 use limits::Limits;
-use tally::{ValidVote, certified, chosen, has_heard, has_quorum, hear, taken, votes_size};
+use tally::{certified, chosen, has_heard, has_quorum, hear, taken, votes_size};
 use values::Value;
 use wire::{Proposal, Vote};
 
@@ -46,7 +46,7 @@ pub fn is_taken(memory: &[u64], limits: Limits, vote: Vote) -> bool
         Holds (limits_of all limits) (part of-votes (limits_of all limits) memory.now) vs →
         result ≡ slot_taken (vote_of vote) vs }
 {
-    taken(&memory[64..votes_end(limits)], ValidVote { limits, vote })
+    taken(&memory[64..votes_end(limits)], limits, vote)
 }
 
 // Was this very vote heard?
@@ -57,7 +57,7 @@ pub fn is_heard(memory: &[u64], limits: Limits, vote: Vote) -> bool
         Holds (limits_of all limits) (part of-votes (limits_of all limits) memory.now) vs →
         result ≡ is_vote_in (vote_of vote) vs }
 {
-    has_heard(&memory[64..votes_end(limits)], ValidVote { limits, vote })
+    has_heard(&memory[64..votes_end(limits)], limits, vote)
 }
 
 // Is there a quorum of votes such as this?
@@ -68,7 +68,7 @@ pub(crate) fn is_quorum(memory: &[u64], limits: Limits, vote: Vote) -> bool
         Holds (limits_of all limits) (part of-votes (limits_of all limits) memory.now) vs →
         result ≡ has_quorum (limits_of all limits) vote.kind vote.period vote.step (value_of vote.value) vs }
 {
-    has_quorum(&memory[64..votes_end(limits)], ValidVote { limits, vote })
+    has_quorum(&memory[64..votes_end(limits)], limits, vote)
 }
 
 // Hears a vote whose slot is not taken.
@@ -83,7 +83,7 @@ pub(crate) fn hear_vote(memory: &mut [u64], limits: Limits, vote: Vote)
     ensures only { OnlyIn of-votes (limits_of all limits) memory.old memory.new }
 {
     let end = votes_end(limits);
-    hear(&mut memory[64..end], ValidVote { limits, vote });
+    hear(&mut memory[64..end], limits, vote);
 }
 
 // The chosen value of a period, with `count` blocks here.

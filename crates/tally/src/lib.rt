@@ -1,8 +1,10 @@
 // Votes, proposals and blocks in lent memory: heard once, counted.
 #![tactic(auto)]
 
-pub mod by_limits;
+mod blocks;
 mod decided;
+mod of_valid;
+mod proposals;
 mod ranges;
 mod rows;
 mod sizes;
@@ -10,9 +12,10 @@ mod slots;
 mod valid;
 mod votes;
 
-pub use by_limits::{add_block, keep};
+pub use blocks::add_block;
 pub use cells::{clear, has_block, proposed_for, put_value, value_at};
 pub use decided::{certified, certified_in, chosen};
+pub use proposals::keep;
 pub use sizes::{blocks_size, proposals_size, votes_size};
 pub use valid::ValidVote;
-pub use votes::{count, has_heard, has_quorum, hear, taken, voted_in};
+pub use votes::{has_heard, has_quorum, hear, taken, voted_in};

@@ -1,115 +1,68 @@
-// Votes in range: heard once, and counted.
-ghost use Rattle.std.specs.Prelude.{◌≡◌, ◌+◌, ◌*◌, ◌≤◌, false, ◌∷◌, length};
-ghost use Rattle.protocol.specs.Vote.{slot_taken, is_vote_in, count, has_quorum};
+// Votes: heard once, and counted. The caller knows that a vote is in range; `ValidVote` has the same by its type.
+ghost use Rattle.std.specs.Prelude.{◌≡◌, ◌+◌, ◌*◌, true, false, ◌∷◌, length};
+ghost use Rattle.limits.specs.Limits.{limits_of};
+ghost use Rattle.protocol.specs.Promises.{all};
+ghost use Rattle.protocol.specs.Vote.{slot_taken, is_vote_in, has_quorum};
+ghost use Rattle.protocol.specs.Member.{vote_in_range};
 ghost use Rattle.values.specs.Values.{value_of};
 ghost use Rattle.cells.specs.Cells.{listed, Only};
-ghost use Rattle.tally.specs.Layout.{row_of, votes_size};
-ghost use Rattle.tally.specs.Valid.{valid_vote, vote_limits};
+ghost use Rattle.tally.specs.Layout.{votes_size};
+ghost use Rattle.wire.specs.Meaning.{vote_of};
 ghost use Rattle.tally.specs.Votes.{entry_of, voted, Votes, Holds};
 
-use super::rows::{count_in, row};
-use super::slots::{heard_from, put_heard, quorum_for};
 use super::valid::ValidVote;
+use limits::Limits;
 use values::Value;
 use wire::Vote;
 
-impl ValidVote {
-    // The first entry of its slot.
-    fn row(self) -> u64
-        ensures is { result ≡ row_of (vote_limits self) self.vote.kind self.vote.period self.vote.step }
-        ensures within { 8 * (result + self.limits.members) ≤ votes_size (vote_limits self) }
-    {
-        row(
-            self.limits,
-            self.vote.kind,
-            self.vote.period,
-            self.vote.step,
-        )
-    }
-
-    // Its entry: its member's in its slot.
-    fn entry(self) -> u64
-        ensures is { result ≡ entry_of (vote_limits self) (valid_vote self) }
-        ensures within { 8 * result + 8 ≤ votes_size (vote_limits self) }
-    {
-        self.row() + self.vote.from
-    }
-}
-
 // What the vote's member voted for in its slot.
-pub fn voted_in(votes: &[u64], vote: ValidVote) -> Option<Value>
-    requires votes { length votes.now ≡ votes_size (vote_limits vote) }
-    ensures is { (vs : Votes) → Holds (vote_limits vote) votes.now vs →
-        listed result ≡ voted vote.vote.kind vote.vote.period vote.vote.step vote.vote.from vs }
+pub fn voted_in(votes: &[u64], limits: Limits, vote: Vote) -> Option<Value>
+    requires votes { length votes.now ≡ votes_size (limits_of all limits) }
+    requires vote { vote_in_range (limits_of all limits) (vote_of vote) ≡ true }
+    ensures is { (vs : Votes) → Holds (limits_of all limits) votes.now vs →
+        listed result ≡ voted vote.kind vote.period vote.step vote.from vs }
 {
-    let Vote {
-        kind,
-        period,
-        step,
-        from,
-        value: _,
-    } = vote.vote;
-    heard_from(votes, vote.limits, kind, period, step, from)
+    ValidVote { limits, vote }.voted_in(votes)
 }
 
 // Has the vote's member a vote in its slot already?
-pub fn taken(votes: &[u64], vote: ValidVote) -> bool
-    requires votes { length votes.now ≡ votes_size (vote_limits vote) }
-    ensures is { (vs : Votes) → Holds (vote_limits vote) votes.now vs →
-        result ≡ slot_taken (valid_vote vote) vs }
+pub fn taken(votes: &[u64], limits: Limits, vote: Vote) -> bool
+    requires votes { length votes.now ≡ votes_size (limits_of all limits) }
+    requires vote { vote_in_range (limits_of all limits) (vote_of vote) ≡ true }
+    ensures is { (vs : Votes) → Holds (limits_of all limits) votes.now vs →
+        result ≡ slot_taken (vote_of vote) vs }
 {
-    match voted_in(votes, vote) {
-        Some(_) => true,
-        None => false,
-    }
+    ValidVote { limits, vote }.taken(votes)
 }
 
 // Was this very vote heard?
-pub fn has_heard(votes: &[u64], vote: ValidVote) -> bool
-    requires votes { length votes.now ≡ votes_size (vote_limits vote) }
-    ensures is { (vs : Votes) → Holds (vote_limits vote) votes.now vs →
-        result ≡ is_vote_in (valid_vote vote) vs }
+pub fn has_heard(votes: &[u64], limits: Limits, vote: Vote) -> bool
+    requires votes { length votes.now ≡ votes_size (limits_of all limits) }
+    requires vote { vote_in_range (limits_of all limits) (vote_of vote) ≡ true }
+    ensures is { (vs : Votes) → Holds (limits_of all limits) votes.now vs →
+        result ≡ is_vote_in (vote_of vote) vs }
 {
-    let Some(value) = voted_in(votes, vote) else {
-        return false;
-    };
-    vote.vote.value == value
+    ValidVote { limits, vote }.has_heard(votes)
 }
 
 // Hears a vote whose slot is not taken.
-pub fn hear(votes: &mut [u64], vote: ValidVote)
-    requires votes { length votes.old ≡ votes_size (vote_limits vote) }
-    ensures is { (vs : Votes) → Holds (vote_limits vote) votes.old vs →
-        slot_taken (valid_vote vote) vs ≡ false →
-        Holds (vote_limits vote) votes.new (valid_vote vote ∷ vs) }
-    ensures only { Only (8 * entry_of (vote_limits vote) (valid_vote vote))
-        (8 * entry_of (vote_limits vote) (valid_vote vote) + 5) votes.old votes.new }
+pub fn hear(votes: &mut [u64], limits: Limits, vote: Vote)
+    requires votes { length votes.old ≡ votes_size (limits_of all limits) }
+    requires vote { vote_in_range (limits_of all limits) (vote_of vote) ≡ true }
+    ensures is { (vs : Votes) → Holds (limits_of all limits) votes.old vs →
+        slot_taken (vote_of vote) vs ≡ false → Holds (limits_of all limits) votes.new (vote_of vote ∷ vs) }
+    ensures only { Only (8 * entry_of (limits_of all limits) (vote_of vote))
+        (8 * entry_of (limits_of all limits) (vote_of vote) + 5) votes.old votes.new }
 {
-    put_heard(votes, vote.entry(), vote.vote.value);
+    ValidVote { limits, vote }.hear(votes);
 }
 
-// How many voted so: the votes of its kind, period, step and value, whoever they are from.
-pub fn count(votes: &[u64], vote: ValidVote) -> u64
-    requires votes { length votes.now ≡ votes_size (vote_limits vote) }
-    ensures is { (vs : Votes) → Holds (vote_limits vote) votes.now vs →
-        result ≡ count vote.vote.kind vote.vote.period vote.vote.step (value_of vote.vote.value) vs }
+// Is there a quorum of votes such as this?
+pub fn has_quorum(votes: &[u64], limits: Limits, vote: Vote) -> bool
+    requires votes { length votes.now ≡ votes_size (limits_of all limits) }
+    requires vote { vote_in_range (limits_of all limits) (vote_of vote) ≡ true }
+    ensures is { (vs : Votes) → Holds (limits_of all limits) votes.now vs →
+        result ≡ has_quorum (limits_of all limits) vote.kind vote.period vote.step (value_of vote.value) vs }
 {
-    count_in(votes, vote.limits, vote.row(), vote.vote.value)
-}
-
-// Did a quorum vote so?
-pub fn has_quorum(votes: &[u64], vote: ValidVote) -> bool
-    requires votes { length votes.now ≡ votes_size (vote_limits vote) }
-    ensures is { (vs : Votes) → Holds (vote_limits vote) votes.now vs →
-        result ≡ has_quorum (vote_limits vote) vote.vote.kind vote.vote.period vote.vote.step
-        (value_of vote.vote.value) vs }
-{
-    let Vote {
-        kind,
-        period,
-        step,
-        value,
-        from: _,
-    } = vote.vote;
-    quorum_for(votes, vote.limits, kind, period, step, value)
+    ValidVote { limits, vote }.has_quorum(votes)
 }

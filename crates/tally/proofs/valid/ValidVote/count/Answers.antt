@@ -4,11 +4,11 @@ use Rattle.tally.specs.Valid.{valid_vote, vote_limits}
 use Rattle.tally.specs.Votes.{row_count}
 use Rattle.tally.proofs.Index.{slot_good}
 use Rattle.tally.proofs.Counting.{count-row}
-use Rattle.tally.proofs.votes.count.Goals as goal
+use Rattle.tally.proofs.valid.ValidVote.count.Goals as goal
 
 pub returns : goal.returns
 returns c =
-    let v = c.args.vote in
+    let v = c.args.self in
     let l = vote_limits v in
     let part = c.args.votes.now in
     let x = value_of v.vote.value in

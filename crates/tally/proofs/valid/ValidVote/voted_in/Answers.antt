@@ -1,11 +1,11 @@
 use Rattle.protocol.proofs.Ranges.{ranged}
 use Rattle.tally.specs.Valid.{valid_vote, vote_limits}
 use Rattle.tally.proofs.Index.{slot_good}
-use Rattle.tally.proofs.votes.voted_in.Goals as goal
+use Rattle.tally.proofs.valid.ValidVote.voted_in.Goals as goal
 
 pub heard_from-requires : goal.heard_from-requires
 heard_from-requires c =
-    let v = c.args.vote in
+    let v = c.args.self in
     let l = vote_limits v in
     record {
       votes = c.requires.votes;
