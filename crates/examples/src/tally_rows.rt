@@ -6,11 +6,10 @@ ghost use Rattle.protocol.specs.Member.{vote_in_range};
 ghost use Rattle.tally.specs.Layout.{votes_size};
 ghost use Rattle.wire.specs.Meaning.{vote_of};
 
-use cells::clear;
 use limits::Limits;
 use std::process::Abort;
 use std::test::Fail;
-use tally::{ValidVote, chosen, count, has_quorum, hear, taken, votes_size};
+use tally::{ValidVote, chosen, clear, has_quorum, hear, taken, votes_size};
 use values::Value;
 use wire::{Kind, Vote};
 
@@ -19,19 +18,25 @@ fn value(last: u64) -> Value {
     Value::of(5, 0, 0, last)
 }
 
-fn soft(limits: Limits, last: u64, from: u64) -> ValidVote
+fn soft(limits: Limits, last: u64, from: u64) -> Vote
     requires from { from < limits.members }
-    ensures same { result.limits ≡ limits }
-    ensures good { vote_in_range (limits_of all limits) (vote_of result.vote) ≡ true }
+    ensures good { vote_in_range (limits_of all limits) (vote_of result) ≡ true }
 {
-    let vote = Vote {
+    Vote {
         kind: Kind::Soft.number(),
         period: 1,
         step: 0,
         value: value(last),
         from,
-    };
-    ValidVote { limits, vote }
+    }
+}
+
+// How many voted so.
+fn count(votes: &[u64], limits: Limits, vote: Vote) -> u64
+    requires votes { length votes.now ≡ votes_size (limits_of all limits) }
+    requires vote { vote_in_range (limits_of all limits) (vote_of vote) ≡ true }
+{
+    ValidVote { limits, vote }.count(votes)
 }
 
 // Members from `first` on and below `last` vote for one value, the others for another.
@@ -41,7 +46,7 @@ fn vote_all(votes: &mut [u64], limits: Limits, first: u64, last: u64)
     clear(votes);
     for from in 0..limits.members {
         let number = if first <= from && from < last { 1 } else { 2 };
-        hear(votes, soft(limits, number, from));
+        hear(votes, limits, soft(limits, number, from));
     }
 }
 
@@ -59,12 +64,12 @@ fn check_quorum(
 {
     vote_all(votes, limits, first, last);
     assert!(rt; first <= last && last <= limits.members);
-    assert_eq!(rt; count(votes, soft(limits, 1, 0)), last - first);
+    assert_eq!(rt; count(votes, limits, soft(limits, 1, 0)), last - first);
     assert_eq!(rt;
-        count(votes, soft(limits, 2, 0)),
+        count(votes, limits, soft(limits, 2, 0)),
         limits.members - (last - first)
     );
-    assert_eq!(rt; has_quorum(votes, soft(limits, 1, 0)), yes);
+    assert_eq!(rt; has_quorum(votes, limits, soft(limits, 1, 0)), yes);
     let blocks = [5, 0, 0, 1];
     let Some(found) = chosen(votes, limits, 1, &blocks, 1) else {
         assert!(rt; !yes);
@@ -110,14 +115,13 @@ fn rows(rt: HostRuntime) -> Result<(), Fail> {
 
 // The vote of member `from` in each of a period's slots: soft, cert, eight steps to go on with a value,
 // eight with none.
-fn at_place(limits: Limits, period: u64, place: u64, from: u64) -> ValidVote
+fn at_place(limits: Limits, period: u64, place: u64, from: u64) -> Vote
     requires some { 1 ≤ period }
     requires few { period ≤ limits.periods }
     requires steps { limits.steps ≡ 8 }
     requires place { place < 18 }
     requires from { from < limits.members }
-    ensures same { result.limits ≡ limits }
-    ensures good { vote_in_range (limits_of all limits) (vote_of result.vote) ≡ true }
+    ensures good { vote_in_range (limits_of all limits) (vote_of result) ≡ true }
 {
     let (kind, step) = match place {
         0 => (Kind::Soft, 0),
@@ -125,14 +129,13 @@ fn at_place(limits: Limits, period: u64, place: u64, from: u64) -> ValidVote
         2..=9 => (Kind::Next, place),
         _ => (Kind::NextNone, place - 8),
     };
-    let vote = Vote {
+    Vote {
         kind: kind.number(),
         period,
         step,
         value: Value::zero(),
         from,
-    };
-    ValidVote { limits, vote }
+    }
 }
 
 // Each slot of each member is free until it is heard in.
@@ -145,8 +148,8 @@ fn hear_all(rt: &impl Abort, votes: &mut [u64], limits: Limits)
         for place in 0..18 {
             for from in 0..limits.members {
                 let vote = at_place(limits, period + 1, place, from);
-                assert!(rt; !taken(votes, vote));
-                hear(votes, vote);
+                assert!(rt; !taken(votes, limits, vote));
+                hear(votes, limits, vote);
             }
         }
     }

@@ -9,12 +9,11 @@ use Rattle.tally.proofs.Index.{alone_good, onward-good, vote-good}
 use Rattle.examples.proofs.tally_rows.at_place.Goals as goal
 use Rattle.examples.proofs.tally_rows.at_place.Goals.{in-0, in-1, in-2-to-9, in_default}
 
-slot_at : (l : Limits) (p k s k' s' : ℕ) → k ≡ k' → s ≡ s' → slot_in_range l k' p s' ≡ true →
-    slot_in_range l k p s ≡ true
+slot_at : (l : Limits) (p k s k' s' : ℕ) → k ≡ k' → s ≡ s' → slot_in_range l k' p s' ≡ true → slot_in_range l k p s ≡ true
 slot_at l p k s k' s' d e h = (λ i. slot_in_range l (d i) p (e i)) ∙ h
 
-pub invariant_of-result : goal.invariant_of-result
-invariant_of-result c =
+pub returns : goal.returns
+returns c =
     let l = limits_of all c.args.limits in
     let p = c.args.period in
     let x = c.zero.result in
@@ -43,4 +42,4 @@ invariant_of-result c =
           (omega (arith, w.in_default)) (omega (arith, w.in_default, c.requires.steps, c.requires.place)))
     ] in
     let below = value_below x.limbs x.four x.fit in
-    record { in_range = vote-good l _ slot c.requires.from below (λ _. c.zero.ensures.is) }
+    record { good = vote-good l _ slot c.requires.from below (λ _. c.zero.ensures.is) }
