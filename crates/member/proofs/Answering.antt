@@ -1,14 +1,17 @@
 -- An answer, from the checks that passed and what was done.
-use Rattle.std.proofs.Common.{◌≡◌, ℕ, suc, ◌+◌, ◌-◌, ◌<◌, ◌≤◌, true, false, eqb, List, [], length, get_or, take, drop, Some, None, Option, sym, refl, ap, ◌∙◌, inr, arith, length-drop, get_or-drop, get_or-take}
+use Rattle.std.proofs.Common.{◌≡◌, ℕ, suc, ◌+◌, ◌-◌, ◌<◌, ◌≤◌, true, false, eqb, List, [], length, get_or, take, drop}
+use Rattle.std.proofs.Common.{Some, None, Option, sym, refl, ap, ◌∙◌, inr, arith, length-drop, get_or-drop, get_or-take}
 use Rattle.std.proofs.lemmas.List.{same_lists, get_or_default}
 use Rattle.std.proofs.lemmas.Bool.{eq-eqb, ne_eqb, cond-true, cond-false, true≢false}
 use Rattle.protocol.specs.Vote.{Limits}
-use Rattle.protocol.specs.Member.{Member, Event, refused, says, is_some, is_event, event_number, in_range, last_refusal, refusal, not_refused, place, does, answer, after}
+use Rattle.protocol.specs.Member.{Member, Event, refused, says, is_some, is_event, event_number, in_range, last_refusal}
+use Rattle.protocol.specs.Member.{refusal, not_refused, place, does, answer, after}
 use Rattle.values.specs.declared.value.Value.{Value}
 use Rattle.wire.specs.Meaning.{agreed_of}
 use Rattle.cells.specs.Cells.{listed, Only}
 use Rattle.member.specs.Header.{Header}
-use Rattle.moves.specs.Parts.{of-header, of-votes, of-proposals, of_blocks, of-rest, votes_end, proposals_end, blocks_end, part, OnlyIn}
+use Rattle.moves.specs.Parts.{of-header, of-votes, of-proposals, of_blocks, of-rest, votes_end, proposals_end}
+use Rattle.moves.specs.Parts.{blocks_end, part, OnlyIn}
 use Rattle.member.proofs.Stores.{option_same}
 use Rattle.moves.specs.declared.state.Member as code
 
@@ -39,7 +42,8 @@ module _ (l : Limits) (a b : List ℕ) (only : Only 0 64 a b) (long : length b �
   only-header of-rest other = behind (blocks_end l) (omega arith)
 
 -- a header stays where its numbers do
-module _ (a b : List ℕ) (x : code.Member) (l : Limits) (same : part of-header l b ≡ part of-header l a) (long : length b ≡ length a) where
+module _ (a b : List ℕ) (x : code.Member) (l : Limits) (same : part of-header l b ≡ part of-header l a)
+    (long : length b ≡ length a) where
   number_same : (i : ℕ) → i < 64 → get_or b i 0 ≡ get_or a i 0
   number_same i h =
       sym (get_or-take 64 b i 0 h) ∙ ap (λ (xs : List ℕ). get_or xs i 0) same ∙ get_or-take 64 a i 0 h
@@ -71,7 +75,8 @@ module _ (a b : List ℕ) (x : code.Member) (l : Limits) (same : part of-header 
 module _ (l : Limits) (m : Member) (e : Event) where
   pub refused-answer : (k : ℕ) → refusal l m e ≡ suc k → answer l m e ≡ refused (suc k) (place e)
   refused-answer k h =
-      cond-false (eqb (refusal l m e) not_refused) _ _ (ne_eqb _ _ (λ z. omega (arith, h, z))) ∙ ap (λ (n : ℕ). refused n (place e)) h
+      cond-false (eqb (refusal l m e) not_refused) _ _ (ne_eqb _ _ (λ z. omega (arith, h, z)))
+      ∙ ap (λ (n : ℕ). refused n (place e)) h
 
   pub refused-after : (k : ℕ) → refusal l m e ≡ suc k → after l m e ≡ m
   refused-after k h = cond-false (eqb (refusal l m e) not_refused) _ _ (ne_eqb _ _ (λ z. omega (arith, h, z)))
@@ -91,6 +96,7 @@ module _ (l : Limits) (m : Member) (e : Event) where
   pub out_of_range_is : is_event e ≡ true → l.takes (event_number e) ≡ true → in_range l e ≡ false → refusal l m e ≡ 2
   out_of_range_is event taken bad = rw (event, taken, bad) refl
 
-  pub agreed_before-is : is_event e ≡ true → l.takes (event_number e) ≡ true → in_range l e ≡ true → is_some m.agreed ≡ true →
+  pub agreed_before-is : is_event e ≡ true → l.takes (event_number e) ≡ true → in_range l e ≡ true →
+      is_some m.agreed ≡ true →
       refusal l m e ≡ 3
   agreed_before-is event taken good agreed = rw (event, taken, good, agreed) refl

@@ -1,5 +1,6 @@
 -- A call of the member that memory holds, whatever events it holds.
-use Rattle.std.proofs.Common.{◌≡◌, ℕ, ◌<◌, true, List, ◌∷◌, length, IfSome, Some, None, Option, sym, refl, ap, ◌∙◌, subst, MatchOption}
+use Rattle.std.proofs.Common.{◌≡◌, ℕ, ◌<◌, true, List, ◌∷◌, length, IfSome, Some, None, Option, sym, refl, ap, ◌∙◌}
+use Rattle.std.proofs.Common.{subst, MatchOption}
 use Rattle.protocol.specs.Vote.{Limits}
 use Rattle.protocol.specs.Member.{Member, Event, unreadable, refused, is_event, place, refusal, answer, after}
 use Rattle.protocol.specs.Programs.{member_after, all_words}
@@ -53,7 +54,8 @@ alone l i es h = record {
 }
 
 -- what memory holds, at the stage that takes every event
-module _ (mem : List ℕ) (x : code.Member) (hx : Header mem x) (l : Limits) (i : ℕ) (es : List Event) (k : Kept l i es mem) where
+module _ (mem : List ℕ) (x : code.Member) (hx : Header mem x) (l : Limits) (i : ℕ) (es : List Event)
+    (k : Kept l i es mem) where
   abbrev m₀ : Member
   m₀ = member_after (taking_all l) i es
 
@@ -110,7 +112,8 @@ pub called : (mem new : List ℕ) (x : code.Member) (e : Event) (a : code-answer
 called mem new x e a hx ans long words = record {
   is = λ l i es k. answer-is mem x hx l i es k new e a (at l i es k);
   kept = λ l i es k. kept_then mem x hx l i es k new e a (at l i es k);
-  refused = λ l i es k h. (at l i es k).kept (subst (λ (n : ℕ). 0 < n) (sym (refusal_is mem x hx l i es k new e a (at l i es k))) h);
+  refused = λ l i es k h. (at l i es k).kept (subst (λ (n : ℕ). 0 < n)
+      (sym (refusal_is mem x hx l i es k new e a (at l i es k))) h);
   rest = λ l i es k. rest-is mem x hx l i es k new e a (at l i es k);
   long = long;
   words = λ h. words;
@@ -136,10 +139,12 @@ called-unreadable mem n = record {
 pub looks : (mem : List ℕ) (x : code.Member) → Header mem x → Looks mem x
 looks mem x hx l i es k = loaded mem x k.carries.member hx k.carries.header (member_after l i es) k.carries.stands
 
-pub looks_at : (mem : List ℕ) (o : Option code.Member) → MatchOption o (IsNotOpen mem) (λ x. Header mem x) → MatchOption o (IsNotOpen mem) (λ x. Looks mem x)
+pub looks_at : (mem : List ℕ) (o : Option code.Member) → MatchOption o (IsNotOpen mem) (λ x. Header mem x) →
+    MatchOption o (IsNotOpen mem) (λ x. Looks mem x)
 looks_at mem None h = h
 looks_at mem (Some x) h = looks mem x h
 
-pub header_in : (mem : List ℕ) (o : Option code.Member) → MatchOption o (IsNotOpen mem) (λ x. Header mem x) → IfSome o (λ x. Header mem x)
+pub header_in : (mem : List ℕ) (o : Option code.Member) → MatchOption o (IsNotOpen mem) (λ x. Header mem x) →
+    IfSome o (λ x. Header mem x)
 header_in mem None h = tt
 header_in mem (Some x) h = h

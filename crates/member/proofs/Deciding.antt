@@ -1,9 +1,12 @@
 -- Which refusal an event has after the first three, and the answer that follows.
-use Rattle.std.proofs.Common.{◌≡◌, ℕ, suc, ◌<◌, ◌≤◌, Bool, true, false, cond, ◌&&◌, ◌||◌, eqb, ltb, leb, List, [], length, sym, refl, ◌∙◌, subst, ap₂, arith}
-use Rattle.std.proofs.lemmas.Bool.{or_from, or_left, or_right, and_from, ne_eqb, le-leb, lt-ltb, le-ltb, leb-true, cond-true, cond-false}
+use Rattle.std.proofs.Common.{◌≡◌, ℕ, suc, ◌<◌, ◌≤◌, Bool, true, false, cond, ◌&&◌, ◌||◌, eqb, ltb, leb, List, []}
+use Rattle.std.proofs.Common.{length, sym, refl, ◌∙◌, subst, ap₂, arith}
+use Rattle.std.proofs.lemmas.Bool.{or_from, or_left, or_right, and_from, ne_eqb, le-leb, lt-ltb, le-ltb, leb-true}
+use Rattle.std.proofs.lemmas.Bool.{cond-true, cond-false}
 use Rattle.protocol.specs.Vote as protocol
 use Rattle.protocol.specs.Vote.{Vote, Proposal, value_bound, slot_taken}
-use Rattle.protocol.specs.Member.{Member, Event, got_vote, got_proposal, got_block, timeout, refused, says, is_in, is_event, event_number, vote_in_range, in_range, last_refusal, refusal, place, does}
+use Rattle.protocol.specs.Member.{Member, Event, got_vote, got_proposal, got_block, timeout, refused, says, is_in}
+use Rattle.protocol.specs.Member.{is_event, event_number, vote_in_range, in_range, last_refusal, refusal, place, does}
 use Rattle.wire.specs.declared.answers.Answer.{Answer}
 use Rattle.wire.specs.declared.events.Event as code-event
 use Rattle.wire.specs.declared.events.Event.TheVariants as code-variants
@@ -69,7 +72,8 @@ module _ (l : protocol.Limits) (m : Member) (takes : (k : ℕ) → l.takes k ≡
 -- ANSWERS
 
 -- refused: nothing changes
-pub refuse : (x : code.Member) (mem : List ℕ) (m : Member) (e : Event) (k : ℕ) (a : Answer) → refusal (lim x) m e ≡ suc k →
+pub refuse : (x : code.Member) (mem : List ℕ) (m : Member) (e : Event) (k : ℕ) (a : Answer) →
+    refusal (lim x) m e ≡ suc k →
     answer_of a ≡ refused (suc k) (place e) → Header mem x → Stands x mem m → Answered x mem mem m e a
 refuse x mem m e k a r is header stands = record {
   is = is ∙ sym (refused-answer (lim x) m e k r);

@@ -1,5 +1,6 @@
 -- A memory of zeros, and the header of a new member.
-use Rattle.std.proofs.Common.{◌≡◌, ℕ, suc, ◌+◌, ◌-◌, ◌<◌, ◌≤◌, true, List, [], ◌∷◌, ◌++◌, length, get_or, take, drop, sym, refl, ◌∙◌, subst, inr, ⊎_elim, arith, length-take, get_or-drop, get_or-take}
+use Rattle.std.proofs.Common.{◌≡◌, ℕ, suc, ◌+◌, ◌-◌, ◌<◌, ◌≤◌, true, List, [], ◌∷◌, ◌++◌, length, get_or, take, drop}
+use Rattle.std.proofs.Common.{sym, refl, ◌∙◌, subst, inr, ⊎_elim, arith, length-take, get_or-drop, get_or-take}
 use Rattle.std.specs.List.{between}
 use Rattle.std.proofs.lemmas.List.{get_or_past, get_or_append_left}
 use Rattle.std.proofs.lemmas.Slice.{drop-append-drop}
@@ -20,13 +21,15 @@ use Rattle.tally.proofs.Heard.{holds_none}
 use Rattle.tally.proofs.Index.{parts_size}
 use Rattle.cells.proofs.Best.{proposes_none}
 use Rattle.cells.proofs.Here.{here_none}
-use Rattle.moves.specs.Parts.{part, of-votes, of-proposals, of_blocks, of-rest, votes_end, proposals_end, blocks_end, Blank}
+use Rattle.moves.specs.Parts.{part, of-votes, of-proposals, of_blocks, of-rest, votes_end, proposals_end, blocks_end}
+use Rattle.moves.specs.Parts.{Blank}
 
 -- the parts are as long together as the limits ask for
 pub size_is : (l : Limits) → blocks_end l ≡ memory_size l
 size_is l = sym (parts_size l)
 
-pub blanked : (l : Limits) (mem ys : List ℕ) (n : ℕ) → n ≡ memory_size l → length ys ≡ n → ((i : ℕ) → get_or ys i 0 ≡ 0) →
+pub blanked : (l : Limits) (mem ys : List ℕ) (n : ℕ) → n ≡ memory_size l → length ys ≡ n →
+    ((i : ℕ) → get_or ys i 0 ≡ 0) →
     Blank l mem (ys ++ drop n mem)
 blanked l mem ys n size long zeros = record {
   zeros = λ i h. get_or_append_left ys (drop n mem) 0 i (omega (arith, size, size_is l, long, h)) ∙ zeros i;
@@ -44,7 +47,8 @@ module _ (l : Limits) (mem mid new : List ℕ) (blank : Blank l mem mid) (only :
   zero_in : (i j k : ℕ) → 64 ≤ i → j ≤ blocks_end l → get_or (between i j new) k 0 ≡ 0
   zero_in i j k low high =
       ⊎_elim
-      (λ (h : k < j - i). get_or-take (j - i) (drop i new) k 0 h ∙ get_or-drop i new k 0 ∙ only (i + k) (inr (omega arith)) ∙ blank.zeros (i + k) (omega arith))
+      (λ (h : k < j - i). get_or-take (j - i) (drop i new) k 0 h ∙ get_or-drop i new k 0
+      ∙ only (i + k) (inr (omega arith)) ∙ blank.zeros (i + k) (omega arith))
       (λ (h : j - i ≤ k). get_or_past (take (j - i) (drop i new)) k 0 (simp length-take (omega arith)))
       (cases_lt k (j - i))
 
@@ -52,21 +56,28 @@ module _ (l : Limits) (mem mid new : List ℕ) (blank : Blank l mem mid) (only :
   no_votes = holds_none l (part of-votes l new) (λ k. zero_in 64 (votes_end l) k (omega arith) (omega arith))
 
   pub no_proposals : Proposes l (part of-proposals l new) []
-  no_proposals = proposes_none l (part of-proposals l new) (λ k. zero_in (votes_end l) (proposals_end l) k (omega arith) (omega arith))
+  no_proposals = proposes_none l (part of-proposals l new)
+      (λ k. zero_in (votes_end l) (proposals_end l) k (omega arith) (omega arith))
 
   pub no_blocks : blocks_in (part of_blocks l new) 0 ≡ []
   no_blocks = here_none (part of_blocks l new)
 
 -- a member was opened, whatever stage its limits are of
 pub opening : (members periods steps blocks i : ℕ) (sizes : sizes.Limits) (mem new : List ℕ) →
-    ((sizes.members ≡ members) × (sizes.periods ≡ periods) × (sizes.steps ≡ steps) × (sizes.blocks ≡ blocks)) → i < members →
+    ((sizes.members ≡ members) × (sizes.periods ≡ periods) × (sizes.steps ≡ steps) × (sizes.blocks ≡ blocks)) →
+    i < members →
     Carries (limits_of all sizes) i new (new_member i) →
-    part of-rest (limits_of all sizes) new ≡ part of-rest (limits_of all sizes) mem → length new ≡ length mem → all_words new ≡ true →
+    part of-rest (limits_of all sizes) new ≡ part of-rest (limits_of all sizes) mem → length new ≡ length mem →
+    all_words new ≡ true →
     Opening members periods steps blocks i mem new
 unfolding member_after
 opening members periods steps blocks i sizes mem new made low carries rest long words = record {
   member = low;
-  is = λ l h. record { takes = h.takes; carries = subst (λ (k : Limits). Carries k i new (new_member i)) (same l h) carries };
+  is = λ l h. record {
+    takes = h.takes;
+    carries = subst (λ (k : Limits). Carries k i new (new_member i)) (same l h)
+        carries;
+  };
   rest = λ l h. subst (λ (k : Limits). part of-rest k new ≡ part of-rest k mem) (same l h) rest;
   long = long;
   words = words;

@@ -34,7 +34,15 @@ pub right_stands : (can : ℕ → Bool) → RightStands can
 right_stands can = (runs_right can, λ f meets. program_right can running f meets (runs_right can))
 
 pub refusal_keeps_stands : (can : ℕ → Bool) → RefusalKeepsStands can
-refusal_keeps_stands can = (runs_refusal_keeps can, λ f meets. program_refusal_keeps can running f meets (runs_refusal_keeps can))
+refusal_keeps_stands can = (
+  runs_refusal_keeps can,
+  λ f meets. program_refusal_keeps can running f meets
+      (runs_refusal_keeps can),
+)
 
 pub enough_memory_stands : (can : ℕ → Bool) → EnoughMemoryStands can
-enough_memory_stands can = (runs_enough_memory can, λ f meets. program_enough_memory can running f meets (runs_enough_memory can))
+enough_memory_stands can = (
+  runs_enough_memory can,
+  λ f meets. program_enough_memory can running f meets
+      (runs_enough_memory can),
+)

@@ -1,5 +1,6 @@
 -- A header written in three parts.
-use Rattle.std.proofs.Common.{◌≡◌, ℕ, ◌+◌, ◌<◌, ◌≤◌, Bool, true, false, not, eqb, ◌≢◌, ◌⊎◌, List, length, get_or, set, refl, ◌∙◌, inl, inr, arith, length-set, get_or-set_other, get_or-set_same}
+use Rattle.std.proofs.Common.{◌≡◌, ℕ, ◌+◌, ◌<◌, ◌≤◌, Bool, true, false, not, eqb, ◌≢◌, ◌⊎◌, List, length, get_or, set}
+use Rattle.std.proofs.Common.{refl, ◌∙◌, inl, inr, arith, length-set, get_or-set_other, get_or-set_same}
 use mir.Val.{bool_byte}
 use Rattle.limits.specs.declared.bounds.Limits.{Limits}
 use Rattle.cells.specs.Cells.{listed, Only}
@@ -28,11 +29,13 @@ module _ (mem : List ℕ) (at : ℕ) (long : at + 5 ≤ length mem) (a b c d e :
   s₅ = set s₄ (at + 4) e
 
   pub five_else : (i : ℕ) → (i < at) ⊎ (at + 5 ≤ i) → get_or s₅ i 0 ≡ get_or mem i 0
-  five_else i h = put_else s₄ (at + 4) e i (omega arith) ∙ put_else s₃ (at + 3) d i (omega arith) ∙ put_else s₂ (at + 2) c i (omega arith)
+  five_else i h = put_else s₄ (at + 4) e i (omega arith) ∙ put_else s₃ (at + 3) d i (omega arith)
+      ∙ put_else s₂ (at + 2) c i (omega arith)
       ∙ put_else s₁ (at + 1) b i (omega arith) ∙ put_else mem at a i (omega arith)
 
   pub five_0 : get_or s₅ at 0 ≡ a
-  five_0 = put_else s₄ (at + 4) e at (omega arith) ∙ put_else s₃ (at + 3) d at (omega arith) ∙ put_else s₂ (at + 2) c at (omega arith)
+  five_0 = put_else s₄ (at + 4) e at (omega arith) ∙ put_else s₃ (at + 3) d at (omega arith)
+      ∙ put_else s₂ (at + 2) c at (omega arith)
       ∙ put_else s₁ (at + 1) b at (omega arith) ∙ get_or-set_same mem at a 0 (omega arith)
 
   pub five_1 : get_or s₅ (at + 1) 0 ≡ b
@@ -44,7 +47,8 @@ module _ (mem : List ℕ) (at : ℕ) (long : at + 5 ≤ length mem) (a b c d e :
       ∙ get_or-set_same s₂ (at + 2) c 0 (simp length-set (omega arith))
 
   pub five_3 : get_or s₅ (at + 3) 0 ≡ d
-  five_3 = put_else s₄ (at + 4) e (at + 3) (omega arith) ∙ get_or-set_same s₃ (at + 3) d 0 (simp length-set (omega arith))
+  five_3 = put_else s₄ (at + 4) e (at + 3) (omega arith)
+      ∙ get_or-set_same s₃ (at + 3) d 0 (simp length-set (omega arith))
 
   pub five_4 : get_or s₅ (at + 4) 0 ≡ e
   five_4 = get_or-set_same s₄ (at + 4) e 0 (simp length-set (omega arith))
@@ -55,7 +59,8 @@ flag_put n k true h e = rw (h, e) refl
 flag_put n k false h e = rw (h, e) refl
 
 -- a value that may be missing is the same where its five numbers are
-pub option_same : (a b : List ℕ) (at : ℕ) → ((i : ℕ) → at ≤ i → i < at + 5 → get_or b i 0 ≡ get_or a i 0) → option_at b at ≡ option_at a at
+pub option_same : (a b : List ℕ) (at : ℕ) → ((i : ℕ) → at ≤ i → i < at + 5 → get_or b i 0 ≡ get_or a i 0) →
+    option_at b at ≡ option_at a at
 option_same a b at same =
     rw (
       same at (omega arith) (omega arith),
@@ -65,10 +70,12 @@ option_same a b at same =
       same (at + 1 + 3) (omega arith) (omega arith),
     ) refl
 
-module _ (m₀ m₁ m₂ m₃ : List ℕ) (place-only : Only 6 11 m₀ m₁) (start-only : Only 11 16 m₁ m₂) (agreed-only : Only 16 21 m₂ m₃) where
+module _ (m₀ m₁ m₂ m₃ : List ℕ) (place-only : Only 6 11 m₀ m₁) (start-only : Only 11 16 m₁ m₂)
+    (agreed-only : Only 16 21 m₂ m₃) where
   pub stored_only : Only 0 64 m₀ m₃
   stored_only i (inl h) = absurd (omega arith)
-  stored_only i (inr h) = agreed-only i (inr (omega arith)) ∙ start-only i (inr (omega arith)) ∙ place-only i (inr (omega arith))
+  stored_only i (inr h) = agreed-only i (inr (omega arith)) ∙ start-only i (inr (omega arith))
+      ∙ place-only i (inr (omega arith))
 
   before : (i : ℕ) → i < 6 → get_or m₃ i 0 ≡ get_or m₀ i 0
   before i h = agreed-only i (inl (omega arith)) ∙ start-only i (inl (omega arith)) ∙ place-only i (inl (omega arith))

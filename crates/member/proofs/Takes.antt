@@ -2,7 +2,11 @@
 use Rattle.std.proofs.Common.{◌≡◌, ℕ, suc, ◌<◌, Bool, true, cond, not, ◌&&◌, eqb, List, [], ◌∷◌, refl, ap, ◌∙◌, arith}
 use Rattle.std.proofs.lemmas.Bool.{lt-ltb}
 use Rattle.protocol.specs.Vote.{Vote, Limits, has_quorum}
-use Rattle.protocol.specs.Member.{Member, Event, got_vote, got_proposal, got_block, timeout, unreadable, Outcome, silent, with_vote, with_blocks, add_block, at_step, is_some, chosen_in, certified_in, say, say_soft, soft_value, next_vote, on_timeout, onward, onward_all, say_cert, certainly, agree_on, agree, settle, does, is_event, event_number, vote_in_range, in_range, last_refusal, refusal, answer, after, refused, says, place, not_refused}
+use Rattle.protocol.specs.Member.{Member, Event, got_vote, got_proposal, got_block, timeout, unreadable, Outcome}
+use Rattle.protocol.specs.Member.{silent, with_vote, with_blocks, add_block, at_step, is_some, chosen_in, certified_in}
+use Rattle.protocol.specs.Member.{say, say_soft, soft_value, next_vote, on_timeout, onward, onward_all, say_cert}
+use Rattle.protocol.specs.Member.{certainly, agree_on, agree, settle, does, is_event, event_number, vote_in_range}
+use Rattle.protocol.specs.Member.{in_range, last_refusal, refusal, answer, after, refused, says, place, not_refused}
 use Rattle.protocol.specs.Promises.{thin, all, GoodLimits}
 use Rattle.protocol.specs.Programs.{member_after}
 use Rattle.safety.proofs.Chosen.{is-chosen, is-certified}

@@ -1,5 +1,6 @@
 -- What opening a member and calling it do: the two definitions by which a caller knows them. Assumes nothing.
-use Rattle.std.specs.Prelude.{◌≡◌, ℕ, ◌<◌, ◌≤◌, Bool, true, ◌&&◌, List, [], ◌∷◌, length, Some, None, Ok, Err, Result, ◌==◌}
+use Rattle.std.specs.Prelude.{◌≡◌, ℕ, ◌<◌, ◌≤◌, Bool, true, ◌&&◌, List, [], ◌∷◌, length, Some, None, Ok, Err, Result}
+use Rattle.std.specs.Prelude.{◌==◌}
 use Rattle.protocol.specs.Vote as protocol
 use Rattle.protocol.specs.Vote.{is_vote_in}
 use Rattle.protocol.specs.Member.{Event, Answer, refusal, answer}

@@ -1,5 +1,6 @@
 -- When a member agrees, by one vote or one block.
-use Rattle.std.proofs.Common.{◌≡◌, ℕ, Bool, true, false, cond, ◌&&◌, eqb, List, [], ◌∷◌, is_some as option_is_some, Some, None, Option, refl, ap, ◌∙◌, ap₂, arith}
+use Rattle.std.proofs.Common.{◌≡◌, ℕ, Bool, true, false, cond, ◌&&◌, eqb, List, [], ◌∷◌, is_some as option_is_some}
+use Rattle.std.proofs.Common.{Some, None, Option, refl, ap, ◌∙◌, ap₂, arith}
 use Rattle.std.proofs.lemmas.Bool.{and_from, and_left, and_right, eq-eqb, ne_eqb, cond-true, cond-false}
 use Rattle.protocol.specs.Vote.{cert, Vote, Limits, has_quorum}
 use Rattle.protocol.specs.Member.{is_some, is_in, Member, vote_in_range, certified_in, agree_on, having_agreed}
@@ -78,5 +79,6 @@ module _ (l : Limits) (x : ℕ) (m : Member) where
       either true e = refl
       either false e = e
 
-  pub block_agrees : is_some m.agreed ≡ false → certified_by l x l.periods m.votes ≡ true → agree_block l x m ≡ having_agreed x m
+  pub block_agrees : is_some m.agreed ≡ false → certified_by l x l.periods m.votes ≡ true →
+      agree_block l x m ≡ having_agreed x m
   block_agrees none h = cond-false _ _ _ none ∙ cond-true _ _ _ h

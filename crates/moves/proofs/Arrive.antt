@@ -1,13 +1,18 @@
 -- What comes of each event, with what it newly agrees on told by the votes and the block that are new.
-use Rattle.std.proofs.Common.{◌≡◌, ℕ, suc, ◌≤◌, Bool, true, false, cond, not, ◌&&◌, eqb, List, [], ◌∷◌, ◌++◌, sym, refl, ap, ◌∙◌, inl, inr}
+use Rattle.std.proofs.Common.{◌≡◌, ℕ, suc, ◌≤◌, Bool, true, false, cond, not, ◌&&◌, eqb, List, [], ◌∷◌, ◌++◌, sym, refl}
+use Rattle.std.proofs.Common.{ap, ◌∙◌, inl, inr}
 use Rattle.std.proofs.lemmas.Bool.{and_left, cond-false, cond_both}
 use Rattle.protocol.specs.Vote.{soft, cert, next, next_none, Vote, Limits}
-use Rattle.protocol.specs.Member.{Member, Outcome, got_vote, got_block, timeout, is_some, is_in, silent, with_vote, with_blocks, add_block, at_step, having_agreed, own, chosen, certified_in, certified, say_soft, soft_value, first_or_zero, next_vote, onward, say_cert, certainly, agree_on, agree, does}
+use Rattle.protocol.specs.Member.{Member, Outcome, got_vote, got_block, timeout, is_some, is_in, silent, with_vote}
+use Rattle.protocol.specs.Member.{with_blocks, add_block, at_step, having_agreed, own, chosen, certified_in, certified}
+use Rattle.protocol.specs.Member.{say_soft, soft_value, first_or_zero, next_vote, onward, say_cert, certainly, agree_on}
+use Rattle.protocol.specs.Member.{agree, does}
 use Rattle.safety.proofs.Chosen.{is-certified, certified_at_most_one}
 use Rattle.safety.proofs.Single.{onward_keeps}
 use Rattle.tally.specs.Votes.{all_in_range, certified_by}
 use Rattle.moves.specs.Moves.{agree_by, agree_each, agree_block}
-use Rattle.moves.proofs.Plain.{vote_plain, block_plain, first_plain, later_plain, certainly-member, certainly-out, onward-member, onward-out, agree-member}
+use Rattle.moves.proofs.Plain.{vote_plain, block_plain, first_plain, later_plain, certainly-member, certainly-out}
+use Rattle.moves.proofs.Plain.{onward-member, onward-out, agree-member}
 use Rattle.moves.proofs.Newly.{certified_found, certified-new, certified_known, certified_block}
 
 -- AGREEING ON EACH OF SOME VOTES

@@ -1,8 +1,10 @@
 -- Being certain, and votes of one's own.
-use Rattle.std.proofs.Common.{◌≡◌, ℕ, ◌<◌, ◌≤◌, Bool, true, false, cond, not, ◌&&◌, eqb, List, [], ◌∷◌, sym, refl, ap, ◌∙◌, subst, arith}
+use Rattle.std.proofs.Common.{◌≡◌, ℕ, ◌<◌, ◌≤◌, Bool, true, false, cond, not, ◌&&◌, eqb, List, [], ◌∷◌, sym, refl, ap}
+use Rattle.std.proofs.Common.{◌∙◌, subst, arith}
 use Rattle.std.proofs.lemmas.Bool.{and_from, eq-eqb, not_from_false, cond-true}
 use Rattle.protocol.specs.Vote.{cert, next, Vote, Limits}
-use Rattle.protocol.specs.Member.{Member, Outcome, own, silent, with_vote, now_certain, chosen, vote_in_range, say_cert, certainly}
+use Rattle.protocol.specs.Member.{Member, Outcome, own, silent, with_vote, now_certain, chosen, vote_in_range, say_cert}
+use Rattle.protocol.specs.Member.{certainly}
 use Rattle.protocol.proofs.Ranges.{Ranged, range_test}
 use Rattle.values.specs.declared.value.Value.{Value}
 use Rattle.values.specs.Values.{value_of}
@@ -46,7 +48,8 @@ first_in_range x k v first few = record {
   no_value = λ h. absurd (omega arith);
 }
 
-pub first_said : (x : code.Member) (k : ℕ) (v : Value) (r : code-vote.Vote) → vote_of r ≡ own_vote x k 0 (value_of v) → k < next →
+pub first_said : (x : code.Member) (k : ℕ) (v : Value) (r : code-vote.Vote) → vote_of r ≡ own_vote x k 0 (value_of v) →
+    k < next →
     x.period ≤ x.limits.periods → vote_in_range (lim x) (vote_of r) ≡ true
 first_said x k v r e first few =
     subst (λ (w : Vote). vote_in_range (lim x) w ≡ true) (sym e) (range_test (lim x) _ (first_in_range x k v first few))

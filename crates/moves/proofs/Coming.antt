@@ -1,8 +1,11 @@
 -- The moves after an event, one after the other, are what the protocol makes of it.
-use Rattle.std.proofs.Common.{◌≡◌, ℕ, suc, true, false, ◌&&◌, eqb, List, [], ◌∷◌, ◌++◌, Option, sym, refl, ap, ◌∙◌, subst, ap₂, arith}
+use Rattle.std.proofs.Common.{◌≡◌, ℕ, suc, true, false, ◌&&◌, eqb, List, [], ◌∷◌, ◌++◌, Option, sym, refl, ap, ◌∙◌}
+use Rattle.std.proofs.Common.{subst, ap₂, arith}
 use Rattle.std.proofs.lemmas.Bool.{or_from, and_right, ne_eqb, cond_both}
 use Rattle.protocol.specs.Vote.{soft, cert, next, next_none, Vote, Limits, same_slot, slot_taken}
-use Rattle.protocol.specs.Member.{Member, got_vote, got_block, timeout, own, silent, with_vote, with_blocks, at_step, add_block, chosen, onward, certainly, soft_value, say_soft, next_vote, first_or_zero, does}
+use Rattle.protocol.specs.Member.{Member, got_vote, got_block, timeout, own, silent, with_vote, with_blocks, at_step}
+use Rattle.protocol.specs.Member.{add_block, chosen, onward, certainly, soft_value, say_soft, next_vote, first_or_zero}
+use Rattle.protocol.specs.Member.{does}
 use Rattle.tally.specs.Votes.{all_in_range}
 use Rattle.wire.specs.declared.votes.Vote as code-vote
 use Rattle.wire.specs.Meaning.{vote_of}
@@ -10,11 +13,13 @@ use Rattle.moves.specs.Events.{Ready, Did}
 use Rattle.moves.specs.Moves.{voted, MayBeCertain, agree_by, agree_each, agree_block, SaidSoft, SaidNext}
 use Rattle.moves.specs.Stands.{lim, Stands}
 use Rattle.moves.specs.declared.state.Member as code
-use Rattle.moves.proofs.Arrive.{vote-out, vote-member, supplied, block_out, block_member, first_said, first_out, first_member, later_out, later_member}
+use Rattle.moves.proofs.Arrive.{vote-out, vote-member, supplied, block_out, block_member, first_said, first_out}
+use Rattle.moves.proofs.Arrive.{first_member, later_out, later_member}
 use Rattle.moves.proofs.Onward.{goes, gone, by_its_kind}
 
 -- another vote in front leaves a slot free that is not its own
-pub free_behind : (w v : Vote) (vs : List Vote) → (same_slot w v && eqb w.from v.from) ≡ false → slot_taken w vs ≡ false →
+pub free_behind : (w v : Vote) (vs : List Vote) → (same_slot w v && eqb w.from v.from) ≡ false →
+    slot_taken w vs ≡ false →
     slot_taken w (v ∷ vs) ≡ false
 unfolding slot_taken
 free_behind w v vs h k = or_from _ _ h k
@@ -36,9 +41,11 @@ module _ (l : Limits) (y z : code.Member) (e : lim y ≡ l) (mem new : List ℕ)
       (Stands z new (certainly (lim y) (silent m)).member) × (voted said ≡ (certainly (lim y) (silent m)).out) →
       (Stands z new (certainly l (silent m)).member) × (voted said ≡ (certainly l (silent m)).out)
   certain_at said m h =
-      subst (λ (k : Limits). (Stands z new (certainly k (silent m)).member) × (voted said ≡ (certainly k (silent m)).out)) e h
+      subst (λ (k : Limits). (Stands z new (certainly k (silent m)).member)
+      × (voted said ≡ (certainly k (silent m)).out)) e h
 
-  each_at : (vs ws : List Vote) (m : Member) → vs ≡ ws → Stands z new (agree_each (lim y) vs m) → Stands z new (agree_each l ws m)
+  each_at : (vs ws : List Vote) (m : Member) → vs ≡ ws → Stands z new (agree_each (lim y) vs m) →
+      Stands z new (agree_each l ws m)
   each_at vs ws m same h =
       subst (λ (us : List Vote). Stands z new (agree_each l us m)) same
       (subst (λ (k : Limits). Stands z new (agree_each k vs m)) e h)
@@ -49,7 +56,8 @@ module _ (l : Limits) (y z : code.Member) (e : lim y ≡ l) (mem new : List ℕ)
   block_at : (x : ℕ) (m : Member) → Stands z new (agree_block (lim y) x m) → Stands z new (agree_block l x m)
   block_at x m h = subst (λ (k : Limits). Stands z new (agree_block k x m)) e h
 
-  on_at : (v w : Vote) (m : Member) → v ≡ w → Stands z new (onward (lim y) v (silent m)).member → Stands z new (onward l w (silent m)).member
+  on_at : (v w : Vote) (m : Member) → v ≡ w → Stands z new (onward (lim y) v (silent m)).member →
+      Stands z new (onward l w (silent m)).member
   on_at v w m same h =
       subst (λ (u : Vote). Stands z new (onward l u (silent m)).member) same
       (subst (λ (k : Limits). Stands z new (onward k v (silent m)).member) e h)
@@ -64,8 +72,10 @@ abbrev AgreedOwn : code.Member → code.Member → List ℕ → Option code-vote
 AgreedOwn y z mem said = (m : Member) → Stands y mem m → Stands z mem (agree_each (lim y) (voted said) m)
 
 -- certain, and agreed by what was said of that
-module _ (l : Limits) (y₁ y₂ y₃ : code.Member) (e₁ : lim y₁ ≡ l) (e₂ : lim y₂ ≡ l) (mem new : List ℕ) (said : Option code-vote.Vote)
-    (certain : Certain y₁ mem y₂ new said) (agreed : AgreedOwn y₂ y₃ new said) (m : Member) (h : Stands y₁ mem m) (may : MayBeCertain m) where
+module _ (l : Limits) (y₁ y₂ y₃ : code.Member) (e₁ : lim y₁ ≡ l) (e₂ : lim y₂ ≡ l) (mem new : List ℕ)
+    (said : Option code-vote.Vote)
+    (certain : Certain y₁ mem y₂ new said) (agreed : AgreedOwn y₂ y₃ new said) (m : Member) (h : Stands y₁ mem m)
+    (may : MayBeCertain m) where
   pub said-certain : voted said ≡ (certainly l (silent m)).out
   said-certain = (certain_at l y₁ y₂ e₁ mem new said m (certain m h may)).1
 
@@ -117,7 +127,8 @@ block_done x y₁ y₂ y₃ y₄ e₁ e₂ e₃ mem new said v certain agreed by
 
 -- TIME
 -- after its soft vote it may come to be certain
-may_soft : (l : Limits) (m : Member) (xs : List ℕ) → Ready l m → MayBeCertain (say_soft xs (silent (at_step 1 m))).member
+may_soft : (l : Limits) (m : Member) (xs : List ℕ) → Ready l m →
+    MayBeCertain (say_soft xs (silent (at_step 1 m))).member
 unfolding say_soft
 may_soft l m [] ready y step none = ready.fresh.cert_slot y none
 may_soft l m (x ∷ xs) ready y step none =
@@ -140,7 +151,8 @@ first_done x y₁ y₂ y₃ e₁ e₂ mem new first said certain agreed m ready 
     }
 
 -- the slot of its next vote to go on is free
-pub next_slot : (l : Limits) (m : Member) (xs : List ℕ) → Ready l m → slot_taken (next_vote m (suc m.step) xs) m.votes ≡ false
+pub next_slot : (l : Limits) (m : Member) (xs : List ℕ) → Ready l m →
+    slot_taken (next_vote m (suc m.step) xs) m.votes ≡ false
 unfolding next_vote
 next_slot l m (x ∷ xs) ready = ready.fresh.step_slots next (suc m.step) x (omega arith) (omega arith)
 next_slot l m [] ready =

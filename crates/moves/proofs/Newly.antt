@@ -1,13 +1,16 @@
 -- What can be newly certified: `vs` are the votes heard before, of which nothing was certified, `ns` those heard now.
-use Rattle.std.proofs.Common.{◌≡◌, ℕ, ◌+◌, ◌-◌, ◌≤◌, Bool, true, false, cond, ◌⊎◌, List, [], ◌∷◌, ◌++◌, sym, refl, ◌∙◌, inl, inr, zero-add, arith}
-use Rattle.std.proofs.lemmas.Bool.{both_ways, and_parts, and_from, or_cases, or_left, eqb-true, eq-eqb, leb-true, le-leb, cases_lt, cond-true, cond-false}
+use Rattle.std.proofs.Common.{◌≡◌, ℕ, ◌+◌, ◌-◌, ◌≤◌, Bool, true, false, cond, ◌⊎◌, List, [], ◌∷◌, ◌++◌, sym, refl, ◌∙◌}
+use Rattle.std.proofs.Common.{inl, inr, zero-add, arith}
+use Rattle.std.proofs.lemmas.Bool.{both_ways, and_parts, and_from, or_cases, or_left, eqb-true, eq-eqb, leb-true}
+use Rattle.std.proofs.lemmas.Bool.{le-leb, cases_lt, cond-true, cond-false}
 use Rattle.protocol.specs.Vote.{cert, Vote, Limits, count, has_quorum}
 use Rattle.protocol.specs.Member.{is_in, certified_in}
 use Rattle.protocol.proofs.Ranges.{Ranged, ranged}
 use Rattle.safety.proofs.Votes.{In, vote, in_none, in_cases}
 use Rattle.safety.proofs.Counting.{is_false, some_voter, quorum_some}
 use Rattle.safety.proofs.Keeps.{Heard}
-use Rattle.safety.proofs.Chosen.{nil_not_cons, is-certified, certified-has_both, certified_finds, certified_at_most_one, some_certified}
+use Rattle.safety.proofs.Chosen.{nil_not_cons, is-certified, certified-has_both, certified_finds, certified_at_most_one}
+use Rattle.safety.proofs.Chosen.{some_certified}
 use Rattle.tally.specs.Votes.{all_in_range, certified_by}
 use Rattle.tally.proofs.Certain.{by_here, by_some}
 
@@ -61,7 +64,8 @@ module _ (l : Limits) (us : List Vote) (bs : List ℕ) where
       go true e rest = absurd (nil_not_cons n.value [] (sym e))
       go false e rest = rest e
 
-pub certified_found : (l : Limits) (ns vs : List Vote) (bs : List ℕ) (y : ℕ) → certified_in l ns (ns ++ vs) bs ≡ y ∷ [] →
+pub certified_found : (l : Limits) (ns vs : List Vote) (bs : List ℕ) (y : ℕ) →
+    certified_in l ns (ns ++ vs) bs ≡ y ∷ [] →
     certified_in l (ns ++ vs) (ns ++ vs) bs ≡ y ∷ []
 certified_found l ns vs bs y e = found_first l (ns ++ vs) bs ns vs y e
 

@@ -1,5 +1,6 @@
 -- Going on to a later period, by the kind of a vote.
-use Rattle.std.proofs.Common.{◌≡◌, ℕ, suc, ◌+◌, ◌<◌, ◌≤◌, Bool, true, false, cond, ◌&&◌, eqb, leb, List, [], ◌∷◌, sym, refl, ap, ◌∙◌, add-one}
+use Rattle.std.proofs.Common.{◌≡◌, ℕ, suc, ◌+◌, ◌<◌, ◌≤◌, Bool, true, false, cond, ◌&&◌, eqb, leb, List, [], ◌∷◌, sym}
+use Rattle.std.proofs.Common.{refl, ap, ◌∙◌, add-one}
 use Rattle.std.proofs.lemmas.Bool.{and_from, and_left, and_right, le-leb, lt-leb, cond-true, cond-false}
 use Rattle.protocol.specs.Vote.{next, next_none, Vote, Limits, has_quorum}
 use Rattle.protocol.specs.Member.{Member, Outcome, in_period, silent, onward}
@@ -9,7 +10,8 @@ module _ (l : Limits) (v : Vote) (start : List ℕ) (free : Bool) (m : Member) w
   abbrev quorum_now : Bool
   quorum_now = has_quorum l v.kind v.period v.step v.value m.votes
 
-  pub on_to_goes : m.period ≤ v.period → quorum_now ≡ true → on_to l v start free m ≡ in_period (v.period + 1) start free m
+  pub on_to_goes : m.period ≤ v.period → quorum_now ≡ true →
+      on_to l v start free m ≡ in_period (v.period + 1) start free m
   on_to_goes h q =
       cond-true _ _ _ (and_from _ _ (le-leb m.period v.period h) q)
       ∙ ap (λ (p : ℕ). in_period p start free m) (sym (add-one v.period))

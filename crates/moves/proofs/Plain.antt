@@ -1,9 +1,12 @@
 -- What comes of each event, with the rules that cannot apply to it left out; and what the rules make of an outcome that
 -- has said something already.
-use Rattle.std.proofs.Common.{◌≡◌, ℕ, suc, Bool, true, false, cond, not, ◌&&◌, eqb, leb, List, [], ◌∷◌, ◌++◌, refl, ap, ◌∙◌, arith}
+use Rattle.std.proofs.Common.{◌≡◌, ℕ, suc, Bool, true, false, cond, not, ◌&&◌, eqb, leb, List, [], ◌∷◌, ◌++◌, refl, ap}
+use Rattle.std.proofs.Common.{◌∙◌, arith}
 use Rattle.std.proofs.lemmas.Bool.{and_left, ne_eqb, cond-false, cond_both}
 use Rattle.protocol.specs.Vote.{next, Vote, Limits, has_quorum}
-use Rattle.protocol.specs.Member.{Member, Outcome, got_vote, got_block, timeout, silent, with_vote, with_blocks, add_block, at_step, chosen, say, say_soft, soft_value, next_vote, onward, onward_all, say_cert, certainly, agree, settle, does}
+use Rattle.protocol.specs.Member.{Member, Outcome, got_vote, got_block, timeout, silent, with_vote, with_blocks}
+use Rattle.protocol.specs.Member.{add_block, at_step, chosen, say, say_soft, soft_value, next_vote, onward, onward_all}
+use Rattle.protocol.specs.Member.{say_cert, certainly, agree, settle, does}
 use Rattle.safety.proofs.Single.{gone_on}
 
 -- NOTHING SAID LEADS ON
@@ -114,7 +117,8 @@ certainly-member l m o = go (eqb m.step 1 && not m.certain)
     said = record { member = m; out = o }
 
     go : (b : Bool) →
-        (cond b (say_cert (chosen l m) said) said).member ≡ (cond b (say_cert (chosen l m) (silent m)) (silent m)).member
+        (cond b (say_cert (chosen l m) said) said).member ≡ (cond b (say_cert (chosen l m) (silent m))
+        (silent m)).member
     go true = cert-member (chosen l m) m o
     go false = refl
 

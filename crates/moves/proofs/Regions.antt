@@ -5,7 +5,8 @@ use Rattle.std.specs.List.{between}
 use Rattle.std.proofs.lemmas.Slice.{between_is, take-put_mid_below, drop-put_mid, between-put_mid}
 use Rattle.std.proofs.lemmas.Bool.{true≢false}
 use Rattle.protocol.specs.Vote.{Limits}
-use Rattle.moves.specs.Parts.{of-header, of-votes, of-proposals, of_blocks, of-rest, votes_end, proposals_end, blocks_end, OnlyIn}
+use Rattle.moves.specs.Parts.{of-header, of-votes, of-proposals, of_blocks, of-rest, votes_end, proposals_end}
+use Rattle.moves.specs.Parts.{blocks_end, OnlyIn}
 
 -- the numbers from s up to e written anew
 module _ (mem ys : List ℕ) (s e : ℕ) (forward : s ≤ e) (within : e ≤ length mem) (sized : length ys ≡ e - s) where

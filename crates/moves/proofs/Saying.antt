@@ -2,7 +2,8 @@
 use Rattle.std.proofs.Common.{◌≡◌, ℕ, suc, ◌≤◌, true, false, List, [], ◌∷◌, Some, None, Option, sym, ap, ◌∙◌, arith}
 use Rattle.std.proofs.lemmas.Bool.{cond-true, cond-false}
 use Rattle.protocol.specs.Vote.{soft, next, next_none}
-use Rattle.protocol.specs.Member.{Member, own, silent, at_step, with_vote, soft_value, say_soft, next_vote, first_or_zero}
+use Rattle.protocol.specs.Member.{Member, own, silent, at_step, with_vote, soft_value, say_soft, next_vote}
+use Rattle.protocol.specs.Member.{first_or_zero}
 use Rattle.protocol.proofs.Ranges.{Ranged}
 use Rattle.values.specs.declared.value.Value.{Value}
 use Rattle.values.specs.Values.{value_of}
@@ -49,7 +50,8 @@ unfolding say_soft
 soft-none m e = ap (λ (xs : List ℕ). say_soft xs (silent (at_step 1 m))) e
 
 pub soft_one : (m : Member) (x : ℕ) → soft_value m ≡ x ∷ [] →
-    say_soft (soft_value m) (silent (at_step 1 m)) ≡ record { member = with_vote (own m soft 0 x) (at_step 1 m); out = own m soft 0 x ∷ [] }
+    say_soft (soft_value m) (silent (at_step 1 m)) ≡ record
+    { member = with_vote (own m soft 0 x) (at_step 1 m); out = own m soft 0 x ∷ [] }
 unfolding say_soft
 soft_one m x e = ap (λ (xs : List ℕ). say_soft xs (silent (at_step 1 m))) e
 

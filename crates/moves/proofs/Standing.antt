@@ -33,7 +33,8 @@ module _ (x : code.Member) (mem new : List ℕ) (m : Member) (h : Stands x mem m
   }
 
   -- it keeps proposals
-  pub kept_best : (os : List Proposal) → Proposes (lim x) (part of-proposals (lim x) new) os → OnlyIn of-proposals (lim x) mem new →
+  pub kept_best : (os : List Proposal) → Proposes (lim x) (part of-proposals (lim x) new) os →
+      OnlyIn of-proposals (lim x) mem new →
       Stands x new (with_proposals os m)
   kept_best os proposals only = record {
     me = h.me;

@@ -1,5 +1,6 @@
 -- An event that is delivered to an honest member of a network that runs.
-use Rattle.std.proofs.Common.{◌≡◌, ℕ, ◌+◌, ◌<◌, Bool, true, false, ◌||◌, List, Ok, Err, Result, sym, refl, ap, ◌∙◌, subst}
+use Rattle.std.proofs.Common.{◌≡◌, ℕ, ◌+◌, ◌<◌, Bool, true, false, ◌||◌, List, Ok, Err, Result, sym, refl, ap, ◌∙◌}
+use Rattle.std.proofs.Common.{subst}
 use mathlib.Core.Logic.{∥∥₁_map}
 use Rattle.std.specs.List.{between}
 use Rattle.protocol.specs.Vote.{Vote, Limits}

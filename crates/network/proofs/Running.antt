@@ -1,8 +1,10 @@
 -- The memory of a network stays that of one that the protocol can come to: when it begins, and at each event.
-use Rattle.std.proofs.Common.{◌≡◌, ℕ, ◌<◌, Bool, true, false, cond, eqb, ◌≢◌, List, [], ◌∷◌, sym, refl, ap, ◌∙◌, subst, inl, inr, arith}
+use Rattle.std.proofs.Common.{◌≡◌, ℕ, ◌<◌, Bool, true, false, cond, eqb, ◌≢◌, List, [], ◌∷◌, sym, refl, ap, ◌∙◌, subst}
+use Rattle.std.proofs.Common.{inl, inr, arith}
 use Rattle.std.proofs.lemmas.Bool.{cases_Bool, eqb-false, cond-true}
 use Rattle.protocol.specs.Vote.{Vote, Limits}
-use Rattle.protocol.specs.Member.{Member, Event, Answer, refused, says, answer, after, refusal, not_refused, does, place}
+use Rattle.protocol.specs.Member.{Member, Event, Answer, refused, says, answer, after, refusal, not_refused, does}
+use Rattle.protocol.specs.Member.{place}
 use Rattle.protocol.specs.Network.{Network, new_network, deliver, can_happen, begun, happens}
 use Rattle.protocol.specs.Programs.{member_after}
 use Rattle.safety.proofs.Single.{agreed-stays}

@@ -39,7 +39,8 @@ module _ (l : Limits) (faulty : ℕ → Bool) (mem : List ℕ) (run : ∥ Runnin
   open_there none = no_run run
       (λ r. is_open l i (memory_of l faulty i mem) (r.state.member i) (r.held i low good) none)
 
-  pub by_look : (r : Option Member) → MatchOption r (IsNotOpen (memory_of l faulty i mem)) (Looks (memory_of l faulty i mem)) →
+  pub by_look : (r : Option Member) → MatchOption r (IsNotOpen (memory_of l faulty i mem))
+      (Looks (memory_of l faulty i mem)) →
       IfSome r (λ x. Header (memory_of l faulty i mem) x) → ByLook l faulty mem i r
   by_look None none _ = absurd (open_there none)
   by_look (Some x) looks header = (low, (good, (header, looks)))

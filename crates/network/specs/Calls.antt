@@ -1,5 +1,6 @@
 -- What the calls of a running network do and answer. Assumes nothing: these are definitions.
-use Rattle.std.specs.Prelude.{◌≡◌, ℕ, ◌<◌, ◌≤◌, Bool, true, false, List, [], ◌∷◌, Some, None, Ok, Err, vec_items, Option, Result, ◌≢◌}
+use Rattle.std.specs.Prelude.{◌≡◌, ℕ, ◌<◌, ◌≤◌, Bool, true, false, List, [], ◌∷◌, Some, None, Ok, Err, vec_items}
+use Rattle.std.specs.Prelude.{Option, Result, ◌≢◌}
 use Rattle.protocol.specs.Vote.{Vote, Limits}
 use Rattle.protocol.specs.Member.{Event, Answer, refused, says}
 use Rattle.protocol.specs.Promises.{all}

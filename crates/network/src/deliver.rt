@@ -44,7 +44,8 @@ impl Network {
     // The answer of an honest member to an event; or why the event does not come to it, and then nothing changes.
     pub fn deliver(&mut self, to: u64, event: Event) -> Result<Answer, DeliverError>
         ensures is { ByDeliver self.old to (event_of event) self.new result }
-        ensures kept { (self.new.limits ≡ self.old.limits) × ((self.new.faulty ≡ self.old.faulty) × (vec_len self.new.memory ≡ vec_len self.old.memory)) }
+        ensures kept { (self.new.limits ≡ self.old.limits) × ((self.new.faulty ≡ self.old.faulty)
+            × (vec_len self.new.memory ≡ vec_len self.old.memory)) }
     {
         if to >= self.limits.members {
             return Err(DeliverError::NotMember);

@@ -2,10 +2,14 @@
 use Rattle.std.proofs.Common.{◌≡◌, ℕ, Bool, true, List, [], ◌∷◌, refl, lit<, lit≤}
 use Rattle.std.proofs.lemmas.Bool.{and_parts, ltb-true, not-true}
 use Rattle.protocol.specs.Vote.{Limits, slot_taken, is_vote_in, count, has_quorum}
-use Rattle.protocol.specs.Member.{is_some, is_in, event_number, chosen_in, certified_in, keep_best, proposed, say_soft, first_or_zero, next_vote, onward_all, say_cert, agree_on, does, vote_in_range, in_range, is_event, last_refusal, place}
-use Rattle.protocol.specs.Network.{Network, new_network, deliver, votes_of, can_happen, Reachable, begun, happens, how_many, FewFaulty}
+use Rattle.protocol.specs.Member.{is_some, is_in, event_number, chosen_in, certified_in, keep_best, proposed, say_soft}
+use Rattle.protocol.specs.Member.{first_or_zero, next_vote, onward_all, say_cert, agree_on, does, vote_in_range}
+use Rattle.protocol.specs.Member.{in_range, is_event, last_refusal, place}
+use Rattle.protocol.specs.Network.{Network, new_network, deliver, votes_of, can_happen, Reachable, begun, happens}
+use Rattle.protocol.specs.Network.{how_many, FewFaulty}
 use Rattle.protocol.specs.Promises.{thin, GoodLimits}
-use Rattle.protocol.specs.Worked.{Row, played, possible, network_after, four, third_faulty, Worked, SpokenOf, two_ways, all_agree}
+use Rattle.protocol.specs.Worked.{Row, played, possible, network_after, four, third_faulty, Worked, SpokenOf, two_ways}
+use Rattle.protocol.specs.Worked.{all_agree}
 
 -- every definition that playing a table goes through
 pub computing : ℕ

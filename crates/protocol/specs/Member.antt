@@ -1,6 +1,7 @@
 -- One member, and what it does with each event. Assumes nothing: these are definitions. Lists have the last heard
 -- first; a list of values that holds none or one stands for a value that may be missing.
-use Rattle.std.specs.Prelude.{ℕ, suc, Bool, true, false, cond, not, ◌&&◌, ◌||◌, List, [], ◌∷◌, ◌++◌, length, ◌==◌, nat_le, nat_lt}
+use Rattle.std.specs.Prelude.{ℕ, suc, Bool, true, false, cond, not, ◌&&◌, ◌||◌, List, [], ◌∷◌, ◌++◌, length, ◌==◌}
+use Rattle.std.specs.Prelude.{nat_le, nat_lt}
 use Rattle.protocol.specs.Vote.{soft, cert, next, next_none, Vote, Proposal, Limits}
 use Rattle.protocol.specs.Vote.{value_bound, word_bound, slot_taken, has_quorum}
 

@@ -1,6 +1,7 @@
 -- All members together, some of whom do as they like, and everything that can happen to the honest ones; certificates.
 -- Assumes nothing: these are definitions.
-use Rattle.std.specs.Prelude.{◌≡◌, ℕ, zero, suc, ◌+◌, ◌*◌, ◌<◌, Bool, true, false, cond, not, ◌&&◌, ◌||◌, List, [], ◌∷◌, ◌++◌, ◌==◌, nat_lt}
+use Rattle.std.specs.Prelude.{◌≡◌, ℕ, zero, suc, ◌+◌, ◌*◌, ◌<◌, Bool, true, false, cond, not, ◌&&◌, ◌||◌, List, [], ◌∷◌}
+use Rattle.std.specs.Prelude.{◌++◌, ◌==◌, nat_lt}
 use Rattle.protocol.specs.Vote.{cert, Vote, Limits, slot_taken, is_vote_in, is_for, has_quorum}
 use Rattle.protocol.specs.Member.{Member, new_member, Event, got_vote, got_proposal, got_block}
 use Rattle.protocol.specs.Member.{timeout, unreadable, Answer, refused, says, answer, after}

@@ -1,6 +1,7 @@
 -- What is promised. Each is a statement, a type whose proof is owed on the contract of a function. Assumes nothing.
 -- docs/CONTRACTS.md says where each stands. A statement with the parameter `can` is owed for `thin` and for `all`.
-use Rattle.std.specs.Prelude.{◌≡◌, ℕ, ◌*◌, ◌<◌, ◌≤◌, Bool, true, false, cond, not, ◌&&◌, ◌||◌, List, [], ◌∷◌, length, ◌==◌, nat_le}
+use Rattle.std.specs.Prelude.{◌≡◌, ℕ, ◌*◌, ◌<◌, ◌≤◌, Bool, true, false, cond, not, ◌&&◌, ◌||◌, List, [], ◌∷◌, length}
+use Rattle.std.specs.Prelude.{◌==◌, nat_le}
 use Rattle.protocol.specs.Vote.{next, next_none, Vote, Limits, quorum, has_quorum, is_vote_in}
 use Rattle.protocol.specs.Member.{is_in, is_some, Member, Event, timeout, Answer}
 use Rattle.protocol.specs.Member.{chosen, does, refusal, not_refused, answer, after}

@@ -19,7 +19,8 @@
 -- 4. So every period from p on is locked to a, and in every later one a soft quorum is for a. Who is certain of b in a
 --    later period has seen a soft quorum for b there: b is a. And in p itself, two quorums that are certain are of one
 --    slot. So no two values are certified, in whatever periods.
-use Rattle.std.proofs.Common.{◌≡◌, ℕ, zero, suc, ◌+◌, ◌-◌, ◌<◌, ◌≤◌, Bool, true, ◌⊎◌, sym, inl, inr, suc-add, zero-add, arith}
+use Rattle.std.proofs.Common.{◌≡◌, ℕ, zero, suc, ◌+◌, ◌-◌, ◌<◌, ◌≤◌, Bool, true, ◌⊎◌, sym, inl, inr, suc-add, zero-add}
+use Rattle.std.proofs.Common.{arith}
 use Rattle.std.proofs.lemmas.Bool.{cases_order}
 use Rattle.protocol.specs.Vote.{soft, cert, next, next_none, Vote}
 use Rattle.safety.proofs.Votes.{vote}

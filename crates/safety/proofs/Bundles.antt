@@ -1,6 +1,7 @@
 -- Bundles: each is a quorum that can be shown, and from what a member heard one can be made.
 use Rattle.std.proofs.Common.{◌≡◌, ℕ, ◌<◌, Bool, true, false, cond, List, [], ◌∷◌, refl, inl, inr}
-use Rattle.std.proofs.lemmas.Bool.{and_parts, and_from, or_cases, or_left, or_right, ltb-true, lt-ltb, both_ways, cases_Bool, not_from_false}
+use Rattle.std.proofs.lemmas.Bool.{and_parts, and_from, or_cases, or_left, or_right, ltb-true, lt-ltb, both_ways}
+use Rattle.std.proofs.lemmas.Bool.{cases_Bool, not_from_false}
 use Rattle.protocol.specs.Vote.{Vote, Limits, is_vote_in, is_for}
 use Rattle.protocol.specs.Network.{Network, can_come, all_for, all_different, all_can_come, Bundle}
 use Rattle.safety.proofs.Votes.{In, in_none, in_cases, in_here, in_first, in_later, slot_free, free_slot}

@@ -2,7 +2,10 @@
 use Rattle.std.proofs.Common.{◌≡◌, ℕ, suc, true, false, not, ◌&&◌, eqb, List, [], ◌∷◌, refl, arith}
 use Rattle.std.proofs.lemmas.Bool.{and_from, eq-eqb, both_ways, not_from_false}
 use Rattle.protocol.specs.Vote.{cert, Vote, Limits}
-use Rattle.protocol.specs.Member.{Member, Event, got_vote, got_proposal, got_block, timeout, unreadable, Outcome, silent, own, with_vote, with_blocks, add_block, at_step, is_some, chosen, chosen_in, certified, say, say_soft, soft_value, next_vote, on_timeout, onward, onward_all, say_cert, certainly, agree_on, settle, does, refusal, not_refused}
+use Rattle.protocol.specs.Member.{Member, Event, got_vote, got_proposal, got_block, timeout, unreadable, Outcome}
+use Rattle.protocol.specs.Member.{silent, own, with_vote, with_blocks, add_block, at_step, is_some, chosen, chosen_in}
+use Rattle.protocol.specs.Member.{certified, say, say_soft, soft_value, next_vote, on_timeout, onward, onward_all}
+use Rattle.protocol.specs.Member.{say_cert, certainly, agree_on, settle, does, refusal, not_refused}
 use Rattle.protocol.specs.Programs.{member_after}
 use Rattle.safety.proofs.Votes.{In, in_here, in_later}
 use Rattle.safety.proofs.Single.{Rules, onward_all_keeps, settle_keeps, either, onward_keeps}

@@ -1,5 +1,7 @@
--- What is chosen, and what is certified: it has its quorum and its block, and where there is such a value, one is found.
-use Rattle.std.proofs.Common.{◌≡◌, ℕ, ◌≤◌, Bool, true, false, cond, ◌&&◌, eqb, ◌⊎◌, List, [], ◌∷◌, sym, refl, ap, inl, inr, arith}
+-- What is chosen, and what is certified: it has its quorum and its block, and where there is such a value, one is
+-- found.
+use Rattle.std.proofs.Common.{◌≡◌, ℕ, ◌≤◌, Bool, true, false, cond, ◌&&◌, eqb, ◌⊎◌, List, [], ◌∷◌, sym, refl, ap, inl}
+use Rattle.std.proofs.Common.{inr, arith}
 use Rattle.std.proofs.lemmas.Bool.{and_parts, and_from, eq-eqb, both_ways}
 use Rattle.protocol.specs.Vote.{soft, cert, Vote, Limits, has_quorum}
 use Rattle.protocol.specs.Member.{is_in, chosen_in, certified_in}

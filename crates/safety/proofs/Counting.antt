@@ -1,8 +1,10 @@
 -- Counting votes: what a quorum of votes gives. This file alone looks into `has_quorum`, and it supplies all that
 -- agreement needs of quorums.
-use Rattle.std.proofs.Common.{◌≡◌, ℕ, suc, ◌+◌, ◌<◌, ◌≤◌, Bool, true, false, cond, not, ◌⊎◌, List, [], ◌∷◌, sym, refl, ap, ◌∙◌, inl, inr, arith}
+use Rattle.std.proofs.Common.{◌≡◌, ℕ, suc, ◌+◌, ◌<◌, ◌≤◌, Bool, true, false, cond, not, ◌⊎◌, List, [], ◌∷◌, sym, refl}
+use Rattle.std.proofs.Common.{ap, ◌∙◌, inl, inr, arith}
 use Rattle.std.proofs.lemmas.Bool.{and_parts, and_from, eqb-true, leb-true, le-leb, not-true}
-use Rattle.protocol.specs.Vote.{cert, next, next_none, Vote, Limits, slot_taken, is_vote_in, is_for, count, quorum, has_quorum}
+use Rattle.protocol.specs.Vote.{cert, next, next_none, Vote, Limits, slot_taken, is_vote_in, is_for, count, quorum}
+use Rattle.protocol.specs.Vote.{has_quorum}
 use Rattle.protocol.specs.Network.{all_different, how_many, FewFaulty}
 use Rattle.protocol.proofs.Votes.{SamePlace, same_votes}
 use Rattle.protocol.proofs.Counting.{how_many-none}

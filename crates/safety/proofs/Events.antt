@@ -1,8 +1,13 @@
 -- Each event keeps what a member keeps, and after it no certified value is left that it did not agree on.
-use Rattle.std.proofs.Common.{◌≡◌, ℕ, ◌<◌, Bool, true, false, cond, not, ◌&&◌, eqb, ltb, leb, ◌⊎◌, List, [], ◌∷◌, sym, refl, ap, ◌∙◌, inl, inr, arith}
+use Rattle.std.proofs.Common.{◌≡◌, ℕ, ◌<◌, Bool, true, false, cond, not, ◌&&◌, eqb, ltb, leb, ◌⊎◌, List, [], ◌∷◌, sym}
+use Rattle.std.proofs.Common.{refl, ap, ◌∙◌, inl, inr, arith}
 use Rattle.std.proofs.lemmas.Bool.{and_parts, or_parts, eqb-true, eqb-false, both_ways, leb-true, ltb-true}
 use Rattle.protocol.specs.Vote.{Vote, Limits, value_bound, slot_taken}
-use Rattle.protocol.specs.Member.{Member, Event, got_vote, got_proposal, got_block, timeout, unreadable, Outcome, silent, with_vote, with_blocks, with_proposals, keep_best, add_block, is_some, certified, certified_in, onward, onward_all, certainly, agree_on, agree, settle, on_timeout, does, is_event, event_number, in_range, last_refusal, refusal, not_refused, refused, says, answer, after, place}
+use Rattle.protocol.specs.Member.{Member, Event, got_vote, got_proposal, got_block, timeout, unreadable, Outcome}
+use Rattle.protocol.specs.Member.{silent, with_vote, with_blocks, with_proposals, keep_best, add_block, is_some}
+use Rattle.protocol.specs.Member.{certified, certified_in, onward, onward_all, certainly, agree_on, agree, settle}
+use Rattle.protocol.specs.Member.{on_timeout, does, is_event, event_number, in_range, last_refusal, refusal}
+use Rattle.protocol.specs.Member.{not_refused, refused, says, answer, after, place}
 use Rattle.protocol.specs.Network.{votes_of}
 use Rattle.protocol.specs.Programs.{member_after}
 use Rattle.protocol.proofs.Ranges.{ranged}

@@ -1,8 +1,11 @@
 -- The three rules that follow an event keep what a member keeps: onward, certain, agree.
-use Rattle.std.proofs.Common.{◌≡◌, ℕ, suc, ◌<◌, ◌≤◌, true, false, cond, not, ◌&&◌, eqb, List, [], ◌∷◌, sym, refl, inl, inr, arith}
-use Rattle.std.proofs.lemmas.Bool.{and_parts, not-true, eqb-true, eq-eqb, eqb-false, ne_eqb, both_ways, cond-true, cond-false}
+use Rattle.std.proofs.Common.{◌≡◌, ℕ, suc, ◌<◌, ◌≤◌, true, false, cond, not, ◌&&◌, eqb, List, [], ◌∷◌, sym, refl, inl}
+use Rattle.std.proofs.Common.{inr, arith}
+use Rattle.std.proofs.lemmas.Bool.{and_parts, not-true, eqb-true, eq-eqb, eqb-false, ne_eqb, both_ways, cond-true}
+use Rattle.std.proofs.lemmas.Bool.{cond-false}
 use Rattle.protocol.specs.Vote.{soft, cert, next, next_none, Vote, Limits, value_bound}
-use Rattle.protocol.specs.Member.{Member, Outcome, own, now_certain, is_some, is_in, chosen, certified, onward, say_cert, certainly, agree_on, agree}
+use Rattle.protocol.specs.Member.{Member, Outcome, own, now_certain, is_some, is_in, chosen, certified, onward}
+use Rattle.protocol.specs.Member.{say_cert, certainly, agree_on, agree}
 use Rattle.protocol.proofs.Ranges.{Ranged}
 use Rattle.safety.proofs.Votes.{vote}
 use Rattle.safety.proofs.Counting.{quorum_some}

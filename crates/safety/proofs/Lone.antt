@@ -4,7 +4,8 @@ use Rattle.std.proofs.lemmas.Bool.{both_ways}
 use Rattle.protocol.specs.Vote.{soft, cert, Vote, Limits, slot_taken}
 use Rattle.protocol.specs.Member.{Member, own}
 use Rattle.protocol.specs.Programs.{member_after}
-use Rattle.safety.specs.Alone.{HeardOnce, HeardInRange, InItsPlace, Fresh, OwnFresh, OneValueHeard, Begins, AgreesAtOnce, CertainIsSaid, CertainAtOnce}
+use Rattle.safety.specs.Alone.{HeardOnce, HeardInRange, InItsPlace, Fresh, OwnFresh, OneValueHeard, Begins}
+use Rattle.safety.specs.Alone.{AgreesAtOnce, CertainIsSaid, CertainAtOnce}
 use Rattle.protocol.proofs.Votes.{SamePlace}
 use Rattle.protocol.proofs.Ranges.{range_test}
 use Rattle.safety.proofs.Votes.{slot_free, slot_has}

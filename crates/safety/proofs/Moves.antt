@@ -1,9 +1,11 @@
 -- Each small change of a member keeps what a member keeps: a vote more, a step, a period, a block, a proposal, and
 -- what it agreed on.
-use Rattle.std.proofs.Common.{◌≡◌, ℕ, suc, ◌<◌, ◌≤◌, Bool, true, false, cond, eqb, ltb, ◌⊎◌, List, [], ◌∷◌, sym, refl, ap, ◌∙◌, inl, inr, arith}
+use Rattle.std.proofs.Common.{◌≡◌, ℕ, suc, ◌<◌, ◌≤◌, Bool, true, false, cond, eqb, ltb, ◌⊎◌, List, [], ◌∷◌, sym, refl}
+use Rattle.std.proofs.Common.{ap, ◌∙◌, inl, inr, arith}
 use Rattle.std.proofs.lemmas.Bool.{or_right}
 use Rattle.protocol.specs.Vote.{soft, cert, next, next_none, Vote, Proposal, Limits, value_bound, slot_taken}
-use Rattle.protocol.specs.Member.{Member, with_vote, with_proposals, with_blocks, at_step, now_certain, in_period, having_agreed, keep_best, add_block, is_in}
+use Rattle.protocol.specs.Member.{Member, with_vote, with_proposals, with_blocks, at_step, now_certain, in_period}
+use Rattle.protocol.specs.Member.{having_agreed, keep_best, add_block, is_in}
 use Rattle.protocol.proofs.Ranges.{Ranged}
 use Rattle.safety.proofs.Votes.{In, in_cases, slot_free}
 use Rattle.safety.proofs.Agreement.{CameWith, CameFree}

@@ -1,10 +1,12 @@
 -- Everything that can happen: by induction, each honest member keeps what a member keeps, what was said is what the
 -- honest ones hear of themselves, and nobody hears a vote of an honest member that was not said.
 use Rattle.std.proofs.Common.{◌≡◌, ℕ, ◌<◌, Bool, true, false, eqb, List, [], ◌∷◌, ◌++◌, sym, refl, ◌∙◌, inl, inr}
-use Rattle.std.proofs.lemmas.Bool.{and_parts, and_from, or_cases, not-true, not_from_false, eq-eqb, ne_eqb, both_ways, cases_eq, cond-true, cond-false}
+use Rattle.std.proofs.lemmas.Bool.{and_parts, and_from, or_cases, not-true, not_from_false, eq-eqb, ne_eqb, both_ways}
+use Rattle.std.proofs.lemmas.Bool.{cases_eq, cond-true, cond-false}
 use Rattle.protocol.specs.Vote.{Vote, Limits}
 use Rattle.protocol.specs.Member.{Member, Event, got_vote, answer, after}
-use Rattle.protocol.specs.Network.{Network, new_network, deliver, votes_of, can_come, can_happen, Reachable, begun, happens}
+use Rattle.protocol.specs.Network.{Network, new_network, deliver, votes_of, can_come, can_happen, Reachable, begun}
+use Rattle.protocol.specs.Network.{happens}
 use Rattle.protocol.specs.Promises.{no_repeat}
 use Rattle.safety.proofs.Votes.{In, in_none, in_first, in_later, in_left, in_right, in_either}
 use Rattle.safety.proofs.Counting.{is_false}
@@ -57,7 +59,8 @@ came_said faulty w e v can is honest =
     elim (or_cases _ _ come) [ inl f ↦ absurd (both_ways _ honest f) | inr h ↦ h ]
 
 -- what holds of member i after the event and of the others before it holds of all after it
-pub all_after : (l : Limits) (w : Network) (i : ℕ) (e : Event) (P : ℕ → Member → Type 0) → P i (after l (w.member i) e) →
+pub all_after : (l : Limits) (w : Network) (i : ℕ) (e : Event) (P : ℕ → Member → Type 0) →
+    P i (after l (w.member i) e) →
     ((j : ℕ) → (i ≡ j → ⊥) → P j (w.member j)) → (j : ℕ) → P j ((deliver l w i e).member j)
 all_after l w i e P here others j =
     let then : Member = after l (w.member i) e in

@@ -1,8 +1,13 @@
 -- One member and one event, whatever the member: what each small step keeps, and the promises that follow at once.
-use Rattle.std.proofs.Common.{◌≡◌, ℕ, suc, ◌<◌, ◌≤◌, Bool, true, false, cond, not, ◌&&◌, eqb, leb, List, [], ◌∷◌, ◌++◌, refl, ap, ◌∙◌, arith}
+use Rattle.std.proofs.Common.{◌≡◌, ℕ, suc, ◌<◌, ◌≤◌, Bool, true, false, cond, not, ◌&&◌, eqb, leb, List, [], ◌∷◌, ◌++◌}
+use Rattle.std.proofs.Common.{refl, ap, ◌∙◌, arith}
 use Rattle.std.proofs.lemmas.Bool.{and_from, and_parts, leb-true, le-leb, ne_eqb, cond-false}
 use Rattle.protocol.specs.Vote.{next, next_none, Vote, Limits, has_quorum}
-use Rattle.protocol.specs.Member.{Member, Event, got_vote, got_proposal, got_block, timeout, unreadable, Outcome, silent, with_vote, with_blocks, add_block, at_step, in_period, is_some, chosen, certified, say, say_soft, soft_value, next_vote, on_timeout, onward, onward_all, say_cert, certainly, agree_on, agree, settle, does, is_event, event_number, in_range, last_refusal, refusal, not_refused}
+use Rattle.protocol.specs.Member.{Member, Event, got_vote, got_proposal, got_block, timeout, unreadable, Outcome}
+use Rattle.protocol.specs.Member.{silent, with_vote, with_blocks, add_block, at_step, in_period, is_some, chosen}
+use Rattle.protocol.specs.Member.{certified, say, say_soft, soft_value, next_vote, on_timeout, onward, onward_all}
+use Rattle.protocol.specs.Member.{say_cert, certainly, agree_on, agree, settle, does, is_event, event_number, in_range}
+use Rattle.protocol.specs.Member.{last_refusal, refusal, not_refused}
 use Rattle.protocol.specs.Promises.{all, GoodLimits, PeriodsGoOn, NeverStuck, AgreedStays, TurnedAway}
 
 -- what is kept by each of the three rules that follow an event

@@ -1,13 +1,17 @@
 -- Every promise about networks, from the argument of `Agreement` and what holds of all that can happen.
-use Rattle.std.proofs.Common.{◌≡◌, ℕ, ◌≤◌, Bool, true, false, cond, eqb, leb, ◌⊎◌, List, [], ◌∷◌, sym, refl, ap, ◌∙◌, inl, inr, arith}
-use Rattle.std.proofs.lemmas.Bool.{and_parts, and_from, not-true, not_from_false, eqb-true, eq-eqb, leb-true, both_ways, or_from}
+use Rattle.std.proofs.Common.{◌≡◌, ℕ, ◌≤◌, Bool, true, false, cond, eqb, leb, ◌⊎◌, List, [], ◌∷◌, sym, refl, ap, ◌∙◌}
+use Rattle.std.proofs.Common.{inl, inr, arith}
+use Rattle.std.proofs.lemmas.Bool.{and_parts, and_from, not-true, not_from_false, eqb-true, eq-eqb, leb-true, both_ways}
+use Rattle.std.proofs.lemmas.Bool.{or_from}
 use Rattle.protocol.specs.Vote.{soft, cert, next, next_none, Vote, Limits}
 use Rattle.protocol.specs.Member.{Member, is_in}
 use Rattle.protocol.specs.Network.{Network, FewFaulty}
-use Rattle.protocol.specs.Promises.{OneCertified, OneAgreed, clash, clash_any, no_clash, SaysOneThing, AgreedHasBoth, OneChosen, HeardHasBundle, OneWayOn, LockedAfter, SaidOnce}
+use Rattle.protocol.specs.Promises.{OneCertified, OneAgreed, clash, clash_any, no_clash, SaysOneThing, AgreedHasBoth}
+use Rattle.protocol.specs.Promises.{OneChosen, HeardHasBundle, OneWayOn, LockedAfter, SaidOnce}
 use Rattle.safety.specs.Said.{SaidIsOwn}
 use Rattle.safety.proofs.Votes.{In, vote, in_here, in_later}
-use Rattle.safety.proofs.Agreement.{Quorums, CameWith, CameFree, History, one_in_slot, one_way_on as no-two-ways, one_certified as no-two-certified, not_free-after, with_it_after}
+use Rattle.safety.proofs.Agreement.{Quorums, CameWith, CameFree, History, one_in_slot, one_way_on as no-two-ways}
+use Rattle.safety.proofs.Agreement.{one_certified as no-two-certified, not_free-after, with_it_after}
 use Rattle.safety.proofs.Counting.{is_false, counting}
 use Rattle.safety.proofs.Keeps.{Heard, OnePlace, Reason, Keeps}
 use Rattle.safety.proofs.Chosen.{nil_not_cons, first_equal, chosen-has_both}

@@ -1,8 +1,10 @@
 -- What a member says when time is up keeps what a member keeps.
-use Rattle.std.proofs.Common.{◌≡◌, ℕ, suc, ◌<◌, ◌≤◌, Bool, true, false, cond, eqb, ◌⊎◌, List, [], ◌∷◌, sym, refl, ap, ◌∙◌, inl, inr, arith}
+use Rattle.std.proofs.Common.{◌≡◌, ℕ, suc, ◌<◌, ◌≤◌, Bool, true, false, cond, eqb, ◌⊎◌, List, [], ◌∷◌, sym, refl, ap}
+use Rattle.std.proofs.Common.{◌∙◌, inl, inr, arith}
 use Rattle.std.proofs.lemmas.Bool.{eqb-true, eqb-false}
 use Rattle.protocol.specs.Vote.{soft, cert, next, next_none, Vote, Proposal, Limits, value_bound}
-use Rattle.protocol.specs.Member.{Member, silent, own, at_step, chosen, proposed, say, say_soft, soft_value, first_or_zero, next_vote, on_timeout}
+use Rattle.protocol.specs.Member.{Member, silent, own, at_step, chosen, proposed, say, say_soft, soft_value}
+use Rattle.protocol.specs.Member.{first_or_zero, next_vote, on_timeout}
 use Rattle.protocol.proofs.Ranges.{Ranged}
 use Rattle.safety.proofs.Votes.{In}
 use Rattle.safety.proofs.Agreement.{CameWith, CameFree}

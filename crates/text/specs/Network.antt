@@ -1,5 +1,6 @@
 -- Which line says which limits, `network MEMBERS PERIODS STEPS BLOCKS`, and why another says none. Assumes nothing.
-use Rattle.std.specs.Prelude.{◌≡◌, ℕ, ◌^◌, ◌<◌, List, [], ◌∷◌, ◌++◌, Some, None, Ok, Err, codes, decimal, Option, Result, ◌≢◌}
+use Rattle.std.specs.Prelude.{◌≡◌, ℕ, ◌^◌, ◌<◌, List, [], ◌∷◌, ◌++◌, Some, None, Ok, Err, codes, decimal, Option}
+use Rattle.std.specs.Prelude.{Result, ◌≢◌}
 use Rattle.std.specs.Borrow.{Bor}
 use Rattle.limits.specs.Limits.{most, first_bad}
 use Rattle.limits.specs.declared.bounds.Limits.{Limits}

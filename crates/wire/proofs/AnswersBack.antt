@@ -1,5 +1,7 @@
 -- Answers are read back. Assumes nothing.
-use Rattle.std.proofs.Common.{◌≡◌, ℕ, suc, ◌+◌, ◌*◌, ◌<◌, true, false, ◌&&◌, eqb, ltb, leb, List, [], ◌∷◌, ◌++◌, length, get_or, take, drop, IfOk, Some, None, Ok, Err, Option, Result, sym, refl, ap, ◌∙◌, append_assoc, append-nil, add-zero, arith, length-append, length-drop}
+use Rattle.std.proofs.Common.{◌≡◌, ℕ, suc, ◌+◌, ◌*◌, ◌<◌, true, false, ◌&&◌, eqb, ltb, leb, List, [], ◌∷◌, ◌++◌, length}
+use Rattle.std.proofs.Common.{get_or, take, drop, IfOk, Some, None, Ok, Err, Option, Result, sym, refl, ap, ◌∙◌}
+use Rattle.std.proofs.Common.{append_assoc, append-nil, add-zero, arith, length-append, length-drop}
 use Rattle.std.specs.List.{flat_map}
 use Rattle.std.proofs.lemmas.List.{get_or-drop, drop-drop, take_at}
 use Rattle.std.proofs.lemmas.Bool.{and_parts, and_from, lt-ltb, ltb-true, leb-true, ne_eqb, cond-true, false≢true}
@@ -10,11 +12,13 @@ use Rattle.protocol.specs.Vote.{Vote, word_bound}
 use Rattle.protocol.specs.Member.{Answer, refused, says, got_vote}
 use Rattle.protocol.specs.Programs.{readable}
 use Rattle.wire.specs.declared.answers.Refusal.{Refusal}
-use Rattle.wire.specs.declared.answers.Refusal.TheVariants.{NoEvent, OutOfRange, AgreedBefore, VotedBefore, NoMoreTime, NoMoreBlocks}
+use Rattle.wire.specs.declared.answers.Refusal.TheVariants.{NoEvent, OutOfRange, AgreedBefore, VotedBefore, NoMoreTime}
+use Rattle.wire.specs.declared.answers.Refusal.TheVariants.{NoMoreBlocks}
 use Rattle.wire.specs.declared.answers.Said.{Said}
 use Rattle.wire.specs.declared.answers.Said.TheVariants.{Nothing, One, Two}
 use Rattle.wire.specs.Meaning.{refusal_number, said_of, agreed_of}
-use Rattle.wire.specs.Bytes.{Written, vote_bytes, vote_in, part, said_bytes, agreed_bytes, answer_bytes, votes_in, refused_by, agreed_by, says_by, answer_in}
+use Rattle.wire.specs.Bytes.{Written, vote_bytes, vote_in, part, said_bytes, agreed_bytes, answer_bytes, votes_in}
+use Rattle.wire.specs.Bytes.{refused_by, agreed_by, says_by, answer_in}
 use Rattle.wire.specs.Statements.{votes_fit, agreed_fits, sayable, AnswersReadBack}
 use Rattle.wire.proofs.AnswerIn.{answer_at}
 use Rattle.wire.proofs.Sized.{sized-is, reaching-is}
@@ -31,7 +35,8 @@ unfolding votes_fit votes_in
 votes_back bs [] i r fit is = let same : i + 64 * 0 ≡ i = omega arith in (refl, ap (λ n. drop n bs) same ∙ is)
 votes_back bs (v ∷ vs) i r fit is =
     let fits = and_parts _ _ fit in
-    let here = piece bs (vote_bytes v) (flat_map vote_bytes vs ++ r) i 64 (length-vote v) (is ∙ append_assoc (vote_bytes v) _ r) in
+    let here = piece bs (vote_bytes v) (flat_map vote_bytes vs ++ r) i 64 (length-vote v)
+    (is ∙ append_assoc (vote_bytes v) _ r) in
     let rest = votes_back bs vs (i + 64) r fits.1 here.1 in
     let vote : vote_in (part i 64 bs) ≡ v = ap vote_in here.0 ∙ vote_back v fits.0 in
     let place : i + 64 * suc (length vs) ≡ i + 64 + 64 * length vs = omega arith in

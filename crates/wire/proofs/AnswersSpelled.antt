@@ -1,12 +1,15 @@
 -- Answers have one spelling, and what is read can be said. Assumes nothing.
-use Rattle.std.proofs.Common.{◌≡◌, ℕ, zero, suc, ◌+◌, ◌*◌, ◌<◌, ◌≤◌, true, eqb, leb, List, [], ◌∷◌, ◌++◌, length, get_or, take, IfOk, Ok, Err, Result, sym, refl, ap, ◌∙◌, subst, append_assoc, append-nil, arith}
+use Rattle.std.proofs.Common.{◌≡◌, ℕ, zero, suc, ◌+◌, ◌*◌, ◌<◌, ◌≤◌, true, eqb, leb, List, [], ◌∷◌, ◌++◌, length}
+use Rattle.std.proofs.Common.{get_or, take, IfOk, Ok, Err, Result, sym, refl, ap, ◌∙◌, subst, append_assoc, append-nil}
+use Rattle.std.proofs.Common.{arith}
 use Rattle.std.specs.List.{flat_map}
 use Rattle.std.proofs.lemmas.List.{take_all, take_more}
 use Rattle.std.proofs.lemmas.Bool.{and_from, cond_both, eqb-true, leb-false, lt-ltb}
 use Rattle.values.specs.Digits.{under, le_number, le_bytes}
 use Rattle.protocol.specs.Vote.{Vote}
 use Rattle.protocol.specs.Member.{Answer, refused, says}
-use Rattle.wire.specs.Bytes.{vote_bytes, part, said_bytes, answer_bytes, votes_in, refused_by, agreed_by, says_by, answer_by, answer_in}
+use Rattle.wire.specs.Bytes.{vote_bytes, part, said_bytes, answer_bytes, votes_in, refused_by, agreed_by, says_by}
+use Rattle.wire.specs.Bytes.{answer_by, answer_in}
 use Rattle.wire.specs.Statements.{votes_fit, agreed_fits, sayable, AnswersOneSpelling}
 use Rattle.wire.proofs.Sized.{sized_cases}
 use Rattle.wire.proofs.Fields.{under-part, part_below, vote_fits}
@@ -40,7 +43,8 @@ module _ (bs : List ℕ) (u : under 256 bs ≡ true) where
       ∙ append_assoc q _ _
 
   -- one byte more
-  byte_more : (i t : ℕ) (q : List ℕ) → i < length bs → get_or bs i 0 ≡ t → take i bs ≡ q → take (i + 1) bs ≡ q ++ (t ∷ [])
+  byte_more : (i t : ℕ) (q : List ℕ) → i < length bs → get_or bs i 0 ≡ t → take i bs ≡ q → take (i + 1) bs ≡ q
+      ++ (t ∷ [])
   byte_more i t q some is before = take_more bs i 0 some ∙ (λ k. before k ++ (is k ∷ []))
 
   -- if an answer was read, it is spelled so, and can be said

@@ -1,5 +1,6 @@
 -- The event in bytes, by their first. Assumes nothing.
-use Rattle.std.proofs.Common.{◌≡◌, ℕ, ◌^◌, ◌<◌, true, false, eqb, List, length, get_or, IsErrAnd, Ok, Err, Result, sym, ap, ◌∙◌, arith}
+use Rattle.std.proofs.Common.{◌≡◌, ℕ, ◌^◌, ◌<◌, true, false, eqb, List, length, get_or, IsErrAnd, Ok, Err, Result, sym}
+use Rattle.std.proofs.Common.{ap, ◌∙◌, arith}
 use Rattle.std.proofs.lemmas.Bool.{cond-false, cond_both, eqb-true, eqb-false}
 use Rattle.std.proofs.lemmas.Result.{err_from_is_err_and}
 use Rattle.std.proofs.lemmas.Bool.Decides.{nat_tests}
@@ -57,7 +58,8 @@ module _ (bs : List ℕ) where
       cond_both _ _ _ P (λ h. empty (eqb-true _ _ h))
       (λ h.
       let some : 0 < length bs = omega (arith, eqb-false _ _ h) in
-      let one : (t n : ℕ) (e : Event) → get_or bs 0 0 ≡ t → Sizes t n → (length bs ≡ n → P e) → P (sized unreadable n bs e) =
+      let one : (t n : ℕ) (e : Event) → get_or bs 0 0 ≡ t → Sizes t n → (length bs ≡ n → P e) →
+      P (sized unreadable n bs e) =
       λ t n e is size whole.
       let size' : Sizes (get_or bs 0 0) n = rw is size in
       sized_cases P unreadable n bs e (short n size' some) (long n size') whole in

@@ -1,12 +1,14 @@
 -- Events are read back, and have one spelling. Assumes nothing.
-use Rattle.std.proofs.Common.{◌≡◌, ℕ, suc, ◌<◌, true, List, [], ◌∷◌, length, get_or, take, drop, Ok, sym, refl, ap, ◌∙◌, arith, length-drop}
+use Rattle.std.proofs.Common.{◌≡◌, ℕ, suc, ◌<◌, true, List, [], ◌∷◌, length, get_or, take, drop, Ok, sym, refl, ap, ◌∙◌}
+use Rattle.std.proofs.Common.{arith, length-drop}
 use Rattle.std.proofs.lemmas.List.{take_all, take_at, drop_more}
 use Rattle.std.proofs.lemmas.Bool.{ltb-true, false≢true, ne_eqb}
 use Rattle.values.specs.Digits.{le_number, le_bytes}
 use Rattle.values.proofs.Digits.{length_digits, number_digits}
 use Rattle.protocol.specs.Member.{Event, got_vote, got_proposal, got_block, timeout, unreadable, is_event}
 use Rattle.protocol.specs.Programs.{readable}
-use Rattle.wire.specs.Bytes.{Written, event_bytes, event_by, event_in, sized, part, vote_bytes, vote_in, proposal_bytes, proposal_in}
+use Rattle.wire.specs.Bytes.{Written, event_bytes, event_by, event_in, sized, part, vote_bytes, vote_in, proposal_bytes}
+use Rattle.wire.specs.Bytes.{proposal_in}
 use Rattle.wire.specs.Statements.{EventsReadBack, EventsOneSpelling}
 use Rattle.wire.proofs.Sized.{sized-is}
 use Rattle.wire.proofs.Fields.{length-vote, length_proposal, under-part}

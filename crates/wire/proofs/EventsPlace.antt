@@ -1,5 +1,6 @@
 -- The place at which bytes cease to be an event is the first at which none can go on. Assumes nothing.
-use Rattle.std.proofs.Common.{◌≡◌, ℕ, zero, suc, ◌-◌, ◌<◌, ◌≤◌, true, List, [], ◌∷◌, ◌++◌, length, get_or, take, replicate, sym, refl, ap, ◌∙◌, subst, append-nil, arith, length-append}
+use Rattle.std.proofs.Common.{◌≡◌, ℕ, zero, suc, ◌-◌, ◌<◌, ◌≤◌, true, List, [], ◌∷◌, ◌++◌, length, get_or, take}
+use Rattle.std.proofs.Common.{replicate, sym, refl, ap, ◌∙◌, subst, append-nil, arith, length-append}
 use lib.ListN.{length-replicate}
 use Rattle.std.proofs.lemmas.List.{take_all, get_or_append_left, get_or-take, length-take-le}
 use Rattle.std.proofs.lemmas.Bool.{false≢true}
@@ -29,7 +30,8 @@ sizes_bound t n of_timeout = (omega arith, (omega arith, omega arith))
 sizes_of : (e : Event) → is_event e ≡ true → Sizes (get_or (event_bytes e) 0 0) (length (event_bytes e))
 unfolding is_event
 sizes_of (got_vote v) is = let P : ℕ → Type 0 = λ n. Sizes 0 (suc n) in subst P (sym (length-vote v)) of_vote
-sizes_of (got_proposal o) is = let P : ℕ → Type 0 = λ n. Sizes 1 (suc n) in subst P (sym (length_proposal o)) of_proposal
+sizes_of (got_proposal o) is = let P : ℕ → Type 0 = λ n. Sizes 1 (suc n) in
+    subst P (sym (length_proposal o)) of_proposal
 sizes_of (got_block x) is = let P : ℕ → Type 0 = λ n. Sizes 2 (suc n) in subst P (sym (length_digits 256 32 x)) of_block
 sizes_of timeout is = of_timeout
 sizes_of (unreadable n) is = absurd (false≢true is)
@@ -85,7 +87,8 @@ module _ (bs : List ℕ) (u : under 256 bs ≡ true) where
       let long : length (bs ++ zeros) ≡ n =
       length-append bs zeros ∙ omega (arith, length-replicate {A = ℕ} (n - length bs) 0) in
       rw (take_all (length bs) bs (omega arith))
-      (begins_whole bs (bs ++ zeros) zeros n (subst P first size) long (under-append 256 bs zeros u (under-zeros _)) refl)
+      (begins_whole bs (bs ++ zeros) zeros n (subst P first size) long (under-append 256 bs zeros u (under-zeros _))
+      refl)
 
   ceases_long : (n : ℕ) → Sizes (get_or bs 0 0) n → n < length bs → Begins (take n bs) × (Begins (take (suc n) bs) → ⊥)
   ceases_long n size more =
@@ -95,7 +98,8 @@ module _ (bs : List ℕ) (u : under 256 bs ≡ true) where
       let first' : get_or (take (suc n) bs) 0 0 ≡ get_or bs 0 0 = get_or-take (suc n) bs 0 0 (omega arith) in
       let long' : length (take (suc n) bs) ≡ suc n = length-take-le (suc n) bs (omega arith) in
       let long : length (take n bs) ≡ n = length-take-le n bs (omega arith) in (
-        begins_whole (take n bs) (take n bs) [] n (subst P first size) long (under-take 256 n bs u) (sym (append-nil _)),
+        begins_whole (take n bs) (take n bs) [] n (subst P first size) long (under-take 256 n bs u)
+            (sym (append-nil _)),
         λ b.
             let s = begins_size (take (suc n) bs) (omega arith) b in
             let Q : ℕ → Type 0 = λ t. Sizes t s.0 in

@@ -24,7 +24,8 @@ pub sized_err : {A : Type 0} (place : ℕ → A) (n : ℕ) (bs : List ℕ) (a : 
 sized_err place n bs a m e = grind (arith, nat_tests)
 
 pub sized_cases : {A : Type 0} (P : A → Type 0) (place : ℕ → A) (n : ℕ) (bs : List ℕ) (a : A) →
-    (length bs < n → P (place (length bs))) → (n < length bs → P (place n)) → (length bs ≡ n → P a) → P (sized place n bs a)
+    (length bs < n → P (place (length bs))) → (n < length bs → P (place n)) → (length bs ≡ n → P a) →
+    P (sized place n bs a)
 sized_cases P place n bs a short long whole =
     cond_both _ _ _ P (λ h. short (ltb-true _ _ h))
     (λ h. cond_both _ _ _ P (λ k. long (ltb-true _ _ k)) (λ k. whole (omega (arith, ltb-false _ _ h, ltb-false _ _ k))))

@@ -1,5 +1,6 @@
 -- What is promised of the bytes of events and answers. Assumes nothing: these are definitions and statements.
-use Rattle.std.specs.Prelude.{◌≡◌, ℕ, suc, ◌<◌, ◌≤◌, Bool, true, false, ◌&&◌, List, [], ◌∷◌, ◌++◌, length, take, Ok, ◌≢◌, nat_le, nat_lt}
+use Rattle.std.specs.Prelude.{◌≡◌, ℕ, suc, ◌<◌, ◌≤◌, Bool, true, false, ◌&&◌, List, [], ◌∷◌, ◌++◌, length, take, Ok}
+use Rattle.std.specs.Prelude.{◌≢◌, nat_le, nat_lt}
 use Rattle.values.specs.Digits.{under}
 use Rattle.protocol.specs.Vote.{Vote, value_bound, word_bound}
 use Rattle.protocol.specs.Member.{Event, got_vote, unreadable, is_event, Answer, refused, says}

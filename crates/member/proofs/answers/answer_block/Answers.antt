@@ -47,7 +47,12 @@ returns c =
       is = λ m header stands ready.
           done x y c.args.memory.now mid c.says.new.memory m (got_block (value_of v)) c.says.result _
           (block_taken (lim x) m (λ k. refl) ready.open_minded (value_of v) (value_below v.limbs v.four v.fit)
-          (λ h. omega (arith, counted x c.args.memory.now m stands, room.0 (ap (is_in (value_of v)) stands.blocks ∙ h))))
+          (λ h. omega (
+            arith,
+            counted x c.args.memory.now m stands,
+            room.0
+                (ap (is_in (value_of v)) stands.blocks ∙ h),
+          )))
           c.in-Some.ensures.same header c.on_block.ensures.only (omega arith) (room.1 m stands ready)
           c.says.ensures.is c.says.ensures.carries c.says.ensures.only;
     }

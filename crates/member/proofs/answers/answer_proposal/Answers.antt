@@ -18,7 +18,8 @@ returns c =
     let y : Member = c.on_proposal-said.result.0 in
     record {
       is = λ m header stands ready.
-          done x y c.args.memory.now c.on_proposal-said.new.memory c.says.new.memory m (got_proposal (proposal_of c.args.proposal))
+          done x y c.args.memory.now c.on_proposal-said.new.memory c.says.new.memory m
+          (got_proposal (proposal_of c.args.proposal))
           c.says.result _
           (proposal_taken (lim x) m (λ k. refl) ready.open_minded (proposal_of c.args.proposal) c.requires.proposal)
           c.on_proposal-said.ensures.same header c.on_proposal-said.ensures.only (omega arith)

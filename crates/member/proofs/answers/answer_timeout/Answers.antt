@@ -18,7 +18,8 @@ returns-in_default c =
       is = λ m header stands ready.
           refuse x c.args.memory.now m timeout 4 _
           (time_refused (lim x) m (λ k. refl) ready.open_minded
-          (λ h. c.in_default.ensures.is (omega (arith, h.0, stands.step), omega (arith, h.1, stands.period)))) refl header stands;
+          (λ h. c.in_default.ensures.is (omega (arith, h.0, stands.step), omega (arith, h.1, stands.period)))) refl
+          header stands;
     }
 
 pub returns : goal.returns
@@ -31,10 +32,12 @@ returns c =
     record {
       is = λ m header stands ready.
           let did : Did y mid (said_of c.on_timeout-said.result.1) (does (lim x) m timeout) =
-          subst (λ (z : Member). Stands z mem m → Ready (lim z) m → Did y mid (said_of c.on_timeout-said.result.1) (does (lim z) m timeout))
+          subst (λ (z : Member). Stands z mem m → Ready (lim z) m →
+          Did y mid (said_of c.on_timeout-said.result.1) (does (lim z) m timeout))
           time.0 (c.on_timeout-said.ensures.is m) stands ready in
           done x y mem mid c.says.new.memory m timeout c.says.result _
-          (time_taken (lim x) m (λ k. refl) ready.open_minded (omega (arith, time.1.0, stands.step)) (omega (arith, time.1.1, stands.period)))
+          (time_taken (lim x) m (λ k. refl) ready.open_minded (omega (arith, time.1.0, stands.step))
+          (omega (arith, time.1.1, stands.period)))
           (subst (λ (z : Member). Same z y) time.0 c.on_timeout-said.ensures.same) header
           (subst (λ (z : Member). KeptParts (lim z) mem mid) time.0 c.on_timeout-said.ensures.only) (omega arith) did
           c.says.ensures.is c.says.ensures.carries c.says.ensures.only;

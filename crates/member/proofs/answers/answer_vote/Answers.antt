@@ -17,13 +17,15 @@ returns-in_default c =
     record {
       is = λ m header stands ready.
           refuse x c.args.memory.now m (got_vote v) 3 _
-          (vote-refused (lim x) m (λ k. refl) ready.open_minded v c.requires.vote (c.in_default.ensures.is m stands)) refl header stands;
+          (vote-refused (lim x) m (λ k. refl) ready.open_minded v c.requires.vote (c.in_default.ensures.is m stands))
+          refl header stands;
     }
 
 pub on_vote-said-requires : goal.on_vote-said-requires
 on_vote-said-requires c = record {
   long = c.requires.long;
-  vote = subst (λ (w : code-vote.Vote). vote_in_range (lim c.args.member) (vote_of w) ≡ true) (sym c.in-Some.ensures.same) c.requires.vote;
+  vote = subst (λ (w : code-vote.Vote). vote_in_range (lim c.args.member) (vote_of w) ≡ true)
+      (sym c.in-Some.ensures.same) c.requires.vote;
 }
 
 pub returns : goal.returns
@@ -39,7 +41,8 @@ returns c =
           done x y c.args.memory.now mid c.says.new.memory m (got_vote v) c.says.result _
           (vote_taken (lim x) m (λ k. refl) ready.open_minded v c.requires.vote free.0 free.1)
           c.on_vote-said.ensures.same header c.on_vote-said.ensures.only (omega arith)
-          (subst (λ (w : code-vote.Vote). Did y mid (said_of c.on_vote-said.result.1) (does (lim x) m (got_vote (vote_of w)))) same
+          (subst (λ (w : code-vote.Vote). Did y mid (said_of c.on_vote-said.result.1)
+          (does (lim x) m (got_vote (vote_of w)))) same
           (c.on_vote-said.ensures.is m stands ready
           (subst (λ (w : code-vote.Vote). slot_taken (vote_of w) m.votes ≡ false) (sym same) free.0)
           (λ h. free.1 (ap (λ (w : code-vote.Vote). w.from) (sym same) ∙ h))))

@@ -21,7 +21,8 @@ returns c =
         member = x;
         limits = refl;
         me = refl;
-        header = c.store.ensures.is (subst (λ (l : Limits). Asks mem l) (sym same.limits) header.asks) (header.me ∙ sym same.me);
+        header = c.store.ensures.is (subst (λ (l : Limits). Asks mem l) (sym same.limits) header.asks)
+            (header.me ∙ sym same.me);
         stands = headed x mem new m stands only;
       };
       only = only;

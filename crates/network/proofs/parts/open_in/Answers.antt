@@ -1,4 +1,5 @@
-use Rattle.std.proofs.Common.{ℕ, ◌-◌, ◌≤◌, List, length, take, drop, vec_items, sym, refl, subst, arith, length-drop, length-take}
+use Rattle.std.proofs.Common.{ℕ, ◌-◌, ◌≤◌, List, length, take, drop, vec_items, sym, refl, subst, arith, length-drop}
+use Rattle.std.proofs.Common.{length-take}
 use Rattle.protocol.specs.Programs.{memory_size}
 use Rattle.protocol.specs.Promises.{all}
 use Rattle.limits.specs.Limits.{limits_of}
@@ -31,5 +32,6 @@ unreachable-requires c =
     let all' : List ℕ = c.as_mut_slice-all.result.now in
     let long : memory_size (limits_of all c.args.limits) ≤ length
     (take (c.args.end - c.args.start) (drop c.args.start all')) =
-    simp (length-take, length-drop) (omega (arith, c.requires.size, c.requires.within, c.as_mut_slice-all.ensures.len)) in
+    simp (length-take, length-drop) (omega (arith, c.requires.size, c.requires.within, c.as_mut_slice-all.ensures.len))
+    in
     no_error c.args.limits c.args.me _ _ c.in-Err.field-0 c.requires.me long c.in-Err.ensures.is

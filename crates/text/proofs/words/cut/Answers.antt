@@ -9,8 +9,12 @@ returns-then-c-sep c =
     let w : List ℕ = c.args.text.now in
     let i : ℕ = c.loop-i.i in
     let front : i - 0 ≡ i = omega arith in
-    let rest : take (length w - (i + 1)) (drop (i + 1) w) ≡ drop (i + 1) w = take_all _ _ (simp length-drop (omega arith)) in
-    record { is = rw (front, rest, add-one) (pieces_at c.args.sep i w c.loop-i.invariant c.loop-i-test.true c.if-c-sep.true) }
+    let rest : take (length w - (i + 1)) (drop (i + 1) w) ≡ drop (i + 1) w =
+    take_all _ _ (simp length-drop (omega arith)) in
+    record {
+      is = rw (front, rest, add-one) (pieces_at c.args.sep i w c.loop-i.invariant c.loop-i-test.true
+          c.if-c-sep.true);
+    }
 
 pub loop-i-preserved : goal.loop-i-preserved
 loop-i-preserved c =
@@ -21,4 +25,7 @@ loop-i-preserved c =
 pub returns : goal.returns
 returns c =
     let whole : take c.loop-i.i c.args.text.now ≡ c.args.text.now = take_all _ _ c.loop-i-test.false in
-    record { is = one_piece c.args.sep c.args.text.now (subst (λ (x : List ℕ). free_of c.args.sep x ≡ true) whole c.loop-i.invariant) }
+    record {
+      is = one_piece c.args.sep c.args.text.now (subst (λ (x : List ℕ). free_of c.args.sep x ≡ true) whole
+          c.loop-i.invariant);
+    }

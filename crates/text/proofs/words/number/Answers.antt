@@ -31,16 +31,24 @@ pub returns-then-n-digit : goal.returns-then-n-digit
 returns-then-n-digit c =
     let w : List ℕ = c.args.word.now in
     let i : ℕ = c.loop-c.c-index in
-    let d : digit_value (get_or w i 0) + 48 ≡ get_or w i 0 = digit_value_digit (get_or w i 0) (omega arith, omega arith) in
+    let d : digit_value (get_or w i 0) + 48 ≡ get_or w i 0 =
+    digit_value_digit (get_or w i 0) (omega arith, omega arith) in
     let big : 2 ^ 64 ≤ digits_value 10 w =
-    omega (arith, digits_value_more 10 w i c.loop-c-test.true, value-front_le w (i + 1), c.loop-c.invariant.1, c.from-digit.ensures) in
+    omega (
+      arith,
+      digits_value_more 10 w i c.loop-c-test.true,
+      value-front_le w (i + 1),
+      c.loop-c.invariant.1,
+      c.from-digit.ensures,
+    ) in
     record { is = not_too_big w big }
 
 pub loop-c-preserved : goal.loop-c-preserved
 loop-c-preserved c =
     let w : List ℕ = c.args.word.now in
     let i : ℕ = c.loop-c.c-index in
-    let d : digit_value (get_or w i 0) + 48 ≡ get_or w i 0 = digit_value_digit (get_or w i 0) (omega arith, omega arith) in (
+    let d : digit_value (get_or w i 0) + 48 ≡ get_or w i 0 =
+    digit_value_digit (get_or w i 0) (omega arith, omega arith) in (
       digits_more 10 w i c.loop-c-test.true c.loop-c.invariant.0 (omega arith),
       omega (arith, digits_value_more 10 w i c.loop-c-test.true, c.loop-c.invariant.1, c.from-digit.ensures),
       omega arith,

@@ -12,7 +12,8 @@ use Rattle.wire.proofs.answers.write_answer.Goals as goal
 
 pub returns-in_err-room-in-Refused : goal.returns-in_err-room-in-Refused
 returns-in_err-room-in-Refused c =
-    let long = ap (λ a. length (answer_bytes (answer_of a))) c.in-Refused.is ∙ ap suc (simp (length-append, length_digits)) in
+    let long = ap (λ a. length (answer_bytes (answer_of a))) c.in-Refused.is
+    ∙ ap suc (simp (length-append, length_digits)) in
     let err = c.from_residual.ensures in
     record {
       is = no_room _ _ 17 _ c.from_residual.result long c.in_err-room-in-Refused.ensures.is err.1;
@@ -29,7 +30,8 @@ returns-in_ok-room-in-Refused c =
     let why = front_more was 1 _ _ first 8 _ _ (length_digits 256 8 _) number in
     let place = front_more was 9 _ _ why 8 _ _ (length_digits 256 8 _) c.write_number-in-Refused.ensures.is in
     let done = wrote _ _ was _ 17 bytes place room in
-    let fit = ap (λ a. sayable (answer_of a)) c.in-Refused.is ∙ held-refusal_fits _ _ c.write_number-in-Refused.ensures.fits in
+    let fit = ap (λ a. sayable (answer_of a)) c.in-Refused.is
+    ∙ held-refusal_fits _ _ c.write_number-in-Refused.ensures.fits in
     record { is = done; back = answer_written_back _ was _ (Ok 17) fit done }
 
 pub returns-in-Says : goal.returns-in-Says

@@ -35,7 +35,8 @@ returns c =
     let first = front_byte was 1 (omega (arith, room)) in
     let votes =
     front-to was 1 _ _ first (at - 1) at _ _ (omega (arith, said)) (omega arith) c.write_said.ensures.is in
-    let all = front-to was at _ _ votes (end - at) end _ _ (omega (arith, agreed)) (omega arith) c.write_agreed.ensures.is in
+    let all = front-to was at _ _ votes (end - at) end _ _ (omega (arith, agreed)) (omega arith)
+    c.write_agreed.ensures.is in
     record {
       is = wrote _ _ was _ end refl all room;
       fits = held-says_fits c.args.said c.args.agreed c.write_said.ensures.fits;

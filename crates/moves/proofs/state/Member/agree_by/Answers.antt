@@ -5,7 +5,8 @@ use Rattle.wire.specs.Meaning.{vote_of}
 use Rattle.moves.specs.Moves.{OfMember}
 use Rattle.moves.specs.Stands.{lim, Stands}
 use Rattle.moves.specs.declared.state.Member.{Member}
-use Rattle.moves.proofs.Agreeing.{listed_some, by_agreed, by_another_kind, by_too_few, by_no_block, by_agrees, cert-quorum}
+use Rattle.moves.proofs.Agreeing.{listed_some, by_agreed, by_another_kind, by_too_few, by_no_block, by_agrees}
+use Rattle.moves.proofs.Agreeing.{cert-quorum}
 use Rattle.moves.proofs.state.Member.agree_by.Goals as goal
 
 pub returns-then-is_some : goal.returns-then-is_some
@@ -23,7 +24,8 @@ returns-then-vote-number c =
     let x : Member = c.args.self in
     record {
       is = λ m h. subst (λ (y : OfMember). Stands x c.args.memory.now y)
-          (sym (by_another_kind (lim x) (vote_of c.args.vote) m (λ e. c.if-vote-number.true (e ∙ sym c.number.ensures.is)))) h;
+          (sym (by_another_kind (lim x) (vote_of c.args.vote) m
+          (λ e. c.if-vote-number.true (e ∙ sym c.number.ensures.is)))) h;
       same = record { limits = refl; me = refl };
     }
 

@@ -17,6 +17,7 @@ pub returns-in-None : goal.returns-in-None
 returns-in-None c =
     let x : Member = c.args.self in
     record {
-      is = λ m h. subst (λ (y : OfMember). Stands x c.args.memory.now y) (sym (each_none (lim x) m c.args.said c.in-None.is)) h;
+      is = λ m h. subst (λ (y : OfMember). Stands x c.args.memory.now y)
+          (sym (each_none (lim x) m c.args.said c.in-None.is)) h;
       same = record { limits = refl; me = refl };
     }

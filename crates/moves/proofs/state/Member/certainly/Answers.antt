@@ -14,8 +14,11 @@ returns-in_default c =
     let x : code.Member = c.args.self in
     record {
       is = λ m h fresh.
-          let none : certainly (lim x) (silent m) ≡ silent m = certain-none (lim x) m (sym (c.in_default.ensures.is m h)) in
-          (subst (λ (d : Outcome). Stands x c.args.memory.now d.member) (sym none) h, sym (ap (λ (d : Outcome). d.out) none));
+          let none : certainly (lim x) (silent m) ≡ silent m =
+          certain-none (lim x) m (sym (c.in_default.ensures.is m h)) in (
+            subst (λ (d : Outcome). Stands x c.args.memory.now d.member) (sym none) h,
+            sym (ap (λ (d : Outcome). d.out) none),
+          );
       only = λ q other. refl;
       same = record { limits = refl; me = refl };
       ranged = tt;
@@ -42,7 +45,8 @@ returns c =
           let free = subst (λ (w : Vote). slot_taken w m.votes ≡ false) (sym mine)
           (fresh y (sym h.step ∙ c.if-self-ne1.false) (sym h.certain ∙ c.if-self.false)) in
           let said : certainly (lim x) (silent m) ≡ record { member = with_vote v (now_certain m); out = v ∷ [] } =
-          subst (λ (w : Vote). certainly (lim x) (silent m) ≡ record { member = with_vote w (now_certain m); out = w ∷ [] }) (sym mine)
+          subst (λ (w : Vote). certainly (lim x) (silent m) ≡ record
+          { member = with_vote w (now_certain m); out = w ∷ [] }) (sym mine)
           (certain-says (lim x) m y (sym h.step ∙ c.if-self-ne1.false) (sym h.certain ∙ c.if-self.false)
           (sym (c.in-Some.ensures.is m h))) in
           let now-heard : Stands x new (with_vote v m) =

@@ -51,8 +51,10 @@ returns c =
           ≡ record { member = with_vote (own m soft 0 v) (at_step 1 m); out = own m soft 0 v ∷ [] } =
           soft_one m v (sym (c.in-Some.ensures.is m h)) in
           record {
-            stands = subst (λ (d : Outcome). Stands y new d.member) (sym said) (c.say-vote.ensures.is (at_step 1 m) there (free v));
-            out = ap (λ (w : Vote). w ∷ []) (c.say-vote.ensures.said (at_step 1 m) there) ∙ sym (ap (λ (d : Outcome). d.out) said);
+            stands = subst (λ (d : Outcome). Stands y new d.member) (sym said)
+                (c.say-vote.ensures.is (at_step 1 m) there (free v));
+            out = ap (λ (w : Vote). w ∷ []) (c.say-vote.ensures.said (at_step 1 m) there)
+                ∙ sym (ap (λ (d : Outcome). d.out) said);
           };
       only = same_only x y c.at_step-member.ensures.same of-votes mem new c.say-vote.ensures.only;
       same = c.at_step-member.ensures.same;

@@ -31,12 +31,17 @@ returns c =
         c.in_ok-count.ensures.is.1.1,
         λ m h ready.
             let done : Did y₄ new _ _ =
-            block_done x y₁ y₂ y₃ y₄ (same_lim x y₁ s₁) (same_lim x y₂ s₂) (same_lim x y₃ s₃) mid new c.certainly-cert.result.1 v
+            block_done x y₁ y₂ y₃ y₄ (same_lim x y₁ s₁) (same_lim x y₂ s₂) (same_lim x y₃ s₃) mid new
+            c.certainly-cert.result.1 v
             c.certainly-cert.ensures.is c.agree_by_own-own.ensures.is c.agree_on_block-agreed.ensures.is m ready
             (c.with_blocks-after.ensures.is mem mid _ m h first
             (c.in_ok-count.ensures.is.0 ∙ ap (add_block v) h.blocks)) in
             record { stands = done.stands; out = c.said.ensures.is ∙ done.out },
       );
-      only = record { header = then of-header refl ∙ first of-header refl; rest = then of-rest refl ∙ first of-rest refl };
+      only = record {
+        header = then of-header refl ∙ first of-header refl;
+        rest = then of-rest refl
+            ∙ first of-rest refl;
+      };
       same = same_twice x y₃ y₄ s₃ c.agree_on_block-agreed.ensures.same;
     }

@@ -26,7 +26,8 @@ returns c =
       is = λ m h ready.
           let step : m.step ≡ 0 = sym h.step ∙ c.requires.first in
           let done : Did y₃ new _ _ =
-          first_done x y₁ y₂ y₃ (same_lim x y₁ s₁) (same_lim x y₂ s₂) mid new c.first_step-soft.result.1 c.certainly-cert.result.1
+          first_done x y₁ y₂ y₃ (same_lim x y₁ s₁) (same_lim x y₂ s₂) mid new c.first_step-soft.result.1
+          c.certainly-cert.result.1
           c.certainly-cert.ensures.is c.agree_by_own-own.ensures.is m ready step
           (c.first_step-soft.ensures.is m h (λ v. ready.fresh.soft_slot v step)) in
           record { stands = done.stands; out = c.said.ensures.is ∙ done.out };

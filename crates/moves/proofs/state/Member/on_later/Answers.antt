@@ -18,7 +18,8 @@ returns c =
     let only = c.later_step.ensures.only in
     record {
       is = λ m h ready.
-          later_done x y₁ y₂ (same_lim x y₁ s₁) new c.later_step.result.1 c.onward-member.ensures.is m (m.step - 1) ready
+          later_done x y₁ y₂ (same_lim x y₁ s₁) new c.later_step.result.1 c.onward-member.ensures.is m (m.step - 1)
+          ready
           (omega (arith, h.step, c.requires.some_step))
           (c.later_step.ensures.is m h (next_slot (lim x) m (chosen (lim x) m) ready));
       only = record { header = only of-header refl; rest = only of-rest refl };

@@ -24,7 +24,8 @@ returns-then-vote-self c =
     let v : Vote = vote_of c.args.vote in
     record {
       is = λ m h. subst (λ (y : OfMember). Stands x c.args.memory.now y)
-          (sym (on_to_late (lim x) v (listed c.args.start) c.args.free m (omega (arith, c.if-vote-self.true, h.period)))) h;
+          (sym (on_to_late (lim x) v (listed c.args.start) c.args.free m
+          (omega (arith, c.if-vote-self.true, h.period)))) h;
       same = record { limits = refl; me = refl };
     }
 

@@ -30,7 +30,8 @@ returns c =
     record {
       is = λ m h ready free other.
           let done : Did y₄ new _ _ =
-          vote_done x y₁ y₂ y₃ y₄ (same_lim x y₁ s₁) (same_lim x y₂ s₂) (same_lim x y₃ s₃) mid new c.certainly-cert.result.1 v
+          vote_done x y₁ y₂ y₃ y₄ (same_lim x y₁ s₁) (same_lim x y₂ s₂) (same_lim x y₃ s₃) mid new
+          c.certainly-cert.result.1 v
           c.onward-after.ensures.is c.certainly-cert.ensures.is c.agree_by_own-own.ensures.is
           c.agree_by-agreed.ensures.is m ready other
           (heard x mem mid m h v (c.hear_vote.ensures.is m.votes h.votes free) c.hear_vote.ensures.only) in

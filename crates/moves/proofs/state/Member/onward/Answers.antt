@@ -44,7 +44,8 @@ returns-in-NextNone c =
     let v : Vote = vote_of c.args.vote in
     record {
       is = λ m h. subst (λ (y : OfMember). Stands c.on_to-in-NextNone.result c.args.memory.now y)
-          (sym (onward-none (lim x) v m (is-next_none v.kind (sym c.of.ensures.is ∙ c.in-Some.is ∙ ap Some c.in-NextNone.is))))
+          (sym (onward-none (lim x) v m (is-next_none v.kind
+          (sym c.of.ensures.is ∙ c.in-Some.is ∙ ap Some c.in-NextNone.is))))
           (c.on_to-in-NextNone.ensures.is m h);
       same = c.on_to-in-NextNone.ensures.same;
     }
