@@ -50,15 +50,11 @@ pub fn keep(proposals: &mut [u64], proposal: ValidProposal)
     ensures only { Only (seat proposal.proposal.period) (seat proposal.proposal.period + 6)
         proposals.old proposals.new }
 {
-    let Proposal {
-        period,
-        rank,
-        value,
-    } = proposal.proposal;
-    let start = 8 * (period - 1) as usize;
-    if proposals[start] == 0 || rank < proposals[start + 1] {
+    let proposal = proposal.proposal;
+    let start = 8 * (proposal.period - 1) as usize;
+    if proposals[start] == 0 || proposal.rank < proposals[start + 1] {
         proposals[start] = 1;
-        proposals[start + 1] = rank;
-        put_value(proposals, start + 2, value);
+        proposals[start + 1] = proposal.rank;
+        put_value(proposals, start + 2, proposal.value);
     }
 }

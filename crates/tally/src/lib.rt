@@ -3,7 +3,6 @@
 
 mod blocks;
 mod decided;
-mod of_valid;
 mod proposals;
 mod ranges;
 mod rows;

@@ -2,8 +2,7 @@
 #![tactic(auto)]
 
 mod bytes;
-mod parts;
 mod value;
 
-pub use parts::{read_number, read_value, write_number, write_value};
+pub use bytes::{read_number, read_value, write_number, write_value};
 pub use value::Value;

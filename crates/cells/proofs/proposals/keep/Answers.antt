@@ -2,7 +2,7 @@ use Rattle.std.proofs.Common.{◌≡◌, ◌+◌, ◌<◌, ◌≤◌, ◌⊎◌,
 use Rattle.cells.specs.Proposals.{seat, valid_proposal, proposal_limits}
 use Rattle.cells.proofs.Best.{proposes_more, better_new, better_old, proposal_written, proposal_only}
 use Rattle.cells.proofs.proposals.keep.Goals as goal
-use Rattle.cells.proofs.proposals.keep.Goals.{then-proposals-start-eq0-via-then-proposals-start-eq0, then-proposals-start-eq0-via-else-proposals-start-eq0+then-rank-proposals}
+use Rattle.cells.proofs.proposals.keep.Goals.{then-proposals-start-eq0-via-then-proposals-start-eq0, then-proposals-start-eq0-via-else-proposals-start-eq0+then-proposal-proposals}
 
 pub returns-then-proposals-start-eq0 : goal.returns-then-proposals-start-eq0
 returns-then-proposals-start-eq0 c =
@@ -19,8 +19,8 @@ returns-then-proposals-start-eq0 c =
     let why : (get_or part (seat o.period) 0 ≡ 0) ⊎ (o.rank < get_or part (seat o.period + 1) 0) =
     elim c.then-proposals-start-eq0.branch [
       | then-proposals-start-eq0-via-then-proposals-start-eq0 w ↦ inl w.if-proposals-start-eq0.true
-      | then-proposals-start-eq0-via-else-proposals-start-eq0+then-rank-proposals w ↦
-          inr w.if-rank-proposals.true
+      | then-proposals-start-eq0-via-else-proposals-start-eq0+then-proposal-proposals w ↦
+          inr w.if-proposal-proposals.true
     ] in
     record {
       is = λ os h.
@@ -28,13 +28,13 @@ returns-then-proposals-start-eq0 c =
       only = only;
     }
 
-pub returns-else-rank-proposals : goal.returns-else-rank-proposals
-returns-else-rank-proposals c =
+pub returns-else-proposal-proposals : goal.returns-else-proposal-proposals
+returns-else-proposal-proposals c =
     let l = proposal_limits c.args.proposal in
     let o = valid_proposal c.args.proposal in
     let part = c.args.proposals.now in
     record {
       is = λ os h. proposes_more l part part o os h c.args.proposal.some_period c.args.proposal.few_periods
-          (better_old part o c.if-proposals-start-eq0.false c.if-rank-proposals.false) (λ i _. refl);
+          (better_old part o c.if-proposals-start-eq0.false c.if-proposal-proposals.false) (λ i _. refl);
       only = λ i _. refl;
     }

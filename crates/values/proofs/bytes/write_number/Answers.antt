@@ -1,6 +1,6 @@
 use Rattle.std.proofs.Common.{sym, ◌∙◌, arith}
 use Rattle.values.proofs.Words.{word_bytes}
-use Rattle.values.proofs.parts.write_number.Goals as goal
+use Rattle.values.proofs.bytes.write_number.Goals as goal
 
 pub returns : goal.returns
 returns c =

@@ -3,7 +3,7 @@ use Rattle.values.specs.Digits.{le_number, digits}
 use Rattle.values.proofs.Digits.{digits_number}
 use Rattle.values.proofs.Places.{under_by_places}
 use Rattle.values.proofs.Words.{word_number}
-use Rattle.values.proofs.parts.read_number.Goals as goal
+use Rattle.values.proofs.bytes.read_number.Goals as goal
 
 pub returns : goal.returns
 returns c =

@@ -2,7 +2,7 @@ use Rattle.std.proofs.Common.{sym, ◌∙◌, arith}
 use Rattle.values.proofs.Digits.{length_digits}
 use Rattle.values.proofs.Limbs.{four_by_places, four_bytes}
 use Rattle.values.proofs.Pieces.{front-none, front_more, front-all}
-use Rattle.values.proofs.parts.write_value.Goals as goal
+use Rattle.values.proofs.bytes.write_value.Goals as goal
 
 pub returns : goal.returns
 returns c =

@@ -4,7 +4,7 @@ use Rattle.values.specs.Digits.{le_bytes}
 use Rattle.values.specs.Values.{value_of}
 use Rattle.values.proofs.Limbs.{four_bytes, value-from_bytes}
 use Rattle.values.proofs.Pieces.{read_more}
-use Rattle.values.proofs.parts.read_value.Goals as goal
+use Rattle.values.proofs.bytes.read_value.Goals as goal
 
 pub returns : goal.returns
 returns c =
