@@ -5,7 +5,8 @@ use Rattle.values.specs.Digits.{number_of}
 
 -- the value that the four numbers from place `at` on write
 abbrev pub value_at : List ℕ → ℕ → ℕ
-value_at part at = number_of (slice_index part at ∷ slice_index part (at + 1) ∷ slice_index part (at + 2) ∷ slice_index part (at + 3) ∷ [])
+value_at part at = number_of (slice_index part at ∷ slice_index part (at + 1) ∷ slice_index part (at + 2) ∷
+    slice_index part (at + 3) ∷ [])
 
 -- an optional value of the code as none or one number
 abbrev pub listed : Option Value → List ℕ

@@ -1,6 +1,8 @@
 -- Counting a row of entries is counting the votes. Assumes nothing.
-use Rattle.std.proofs.Common.{◌≡◌, ℕ, zero, suc, ◌+◌, ◌<◌, ◌≤◌, Bool, true, false, cond, not, ◌&&◌, eqb, leb, List, [], ◌∷◌, sym, refl, ap, ◌∙◌, ⊎_elim, zero-add, add-one, arith}
-use Rattle.std.proofs.lemmas.Bool.{and_parts, eqb-true, eq-eqb, ne_eqb, not-true, cases_Bool, cases_eq, cond-true, cond-false}
+use Rattle.std.proofs.Common.{◌≡◌, ℕ, zero, suc, ◌+◌, ◌<◌, ◌≤◌, Bool, true, false, cond, not, ◌&&◌, eqb, leb, List, []}
+use Rattle.std.proofs.Common.{◌∷◌, sym, refl, ap, ◌∙◌, ⊎_elim, zero-add, add-one, arith}
+use Rattle.std.proofs.lemmas.Bool.{and_parts, eqb-true, eq-eqb, ne_eqb, not-true, cases_Bool, cases_eq, cond-true}
+use Rattle.std.proofs.lemmas.Bool.{cond-false}
 use Rattle.protocol.specs.Vote.{Vote, Limits, slot_taken, is_for, count, quorum, has_quorum}
 use Rattle.protocol.specs.Member.{vote_in_range}
 use Rattle.protocol.specs.Network.{all_different, how_many}
@@ -62,7 +64,8 @@ module _ (part : List ℕ) (first n x : ℕ) where
   unfolding how_many
   row_more = rw (add-one n) refl
 
-  pub row_yes : true ≡ is_only x (heard_at part (first + n)) → row_count part first (n + 1) x ≡ 1 + row_count part first n x
+  pub row_yes : true ≡ is_only x (heard_at part (first + n)) →
+      row_count part first (n + 1) x ≡ 1 + row_count part first n x
   row_yes e = row_more ∙ ap (λ b. bit b + row_count part first n x) (sym e)
 
   pub row_no : false ≡ is_only x (heard_at part (first + n)) → row_count part first (n + 1) x ≡ row_count part first n x

@@ -11,7 +11,8 @@ module _ (l : Limits) (v : Vote) where
   pub not_in_range : (vote_in_range l v ≡ true → ⊥) → false ≡ vote_in_range l v
   not_in_range h = ⊎_elim (λ e. absurd (h e)) (λ e. sym e) (cases_Bool (vote_in_range l v))
 
-  module _ (low : 1 ≤ v.period) (high : v.period ≤ l.periods) (from : v.from < l.members) (small : v.value < value_bound) where
+  module _ (low : 1 ≤ v.period) (high : v.period ≤ l.periods) (from : v.from < l.members)
+      (small : v.value < value_bound) where
     -- soft and cert votes
     pub first_range : v.kind < next → eqb v.step 0 ≡ vote_in_range l v
     first_range k =
@@ -23,11 +24,16 @@ module _ (l : Limits) (v : Vote) where
         at_zero z = ap (slot_in_range l v.kind v.period) z ∙ alone_good l v.kind v.period k low high
 
     -- votes to go on
-    pub later_range : (t : Bool) → Decides t ((2 ≤ v.step) × (v.step ≤ l.steps + 1)) → next ≤ v.kind → v.kind ≤ next_none →
+    pub later_range : (t : Bool) → Decides t ((2 ≤ v.step) × (v.step ≤ l.steps + 1)) → next ≤ v.kind →
+        v.kind ≤ next_none →
         (v.kind ≡ next_none → v.value ≡ 0) → t ≡ vote_in_range l v
     later_range t d k few none =
-        ⊎_elim (λ e. e ∙ sym (vote-good l v (onward-good l _ _ _ k few low high (d.0 e).0 (omega (arith, (d.0 e).1))) from small none))
-        (λ e. e ∙ not_in_range (λ good. past e (d.1 ((ranged l v good).later_step k, omega (arith, (ranged l v good).steps k)))))
+        ⊎_elim (λ e. e ∙ sym (vote-good l v (onward-good l _ _ _ k few low high (d.0 e).0 (omega (arith, (d.0 e).1)))
+        from small none))
+        (λ e. e ∙ not_in_range (λ good. past e (d.1 (
+          (ranged l v good).later_step k,
+          omega (arith, (ranged l v good).steps k),
+        ))))
         (cases_Bool t)
       where
         past : t ≡ false → t ≡ true → ⊥

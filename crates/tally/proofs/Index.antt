@@ -1,7 +1,9 @@
 -- Where the entries of slots lie: each within the part, and no two at one place. Assumes nothing.
-use Rattle.std.proofs.Common.{◌≡◌, ℕ, suc, ◌+◌, ◌-◌, ◌*◌, ◌/◌, ◌%◌, ◌<◌, ◌≤◌, true, false, cond, ◌&&◌, eqb, ltb, leb, ◌⊎◌, sym, refl, ap, ◌∙◌, inl, inr, ⊎_elim, mul_comm, arith}
+use Rattle.std.proofs.Common.{◌≡◌, ℕ, suc, ◌+◌, ◌-◌, ◌*◌, ◌/◌, ◌%◌, ◌<◌, ◌≤◌, true, false, cond, ◌&&◌, eqb, ltb, leb}
+use Rattle.std.proofs.Common.{◌⊎◌, sym, refl, ap, ◌∙◌, inl, inr, ⊎_elim, mul_comm, arith}
 use Rattle.std.proofs.lemmas.Nat.{mul-add-lt, div-mul-add, mod-mul-add}
-use Rattle.std.proofs.lemmas.Bool.{and_parts, and_from, ltb-true, ltb-false, leb-true, eqb-true, eqb-false, le-leb, cases_Bool, cond-true, cond-false}
+use Rattle.std.proofs.lemmas.Bool.{and_parts, and_from, ltb-true, ltb-false, leb-true, eqb-true, eqb-false, le-leb}
+use Rattle.std.proofs.lemmas.Bool.{cases_Bool, cond-true, cond-false}
 use Rattle.protocol.specs.Vote.{next, next_none, value_bound, Vote, Limits}
 use Rattle.protocol.specs.Member.{vote_in_range}
 use Rattle.protocol.specs.Programs.{memory_size}
@@ -90,7 +92,12 @@ module _ (l : Limits) (k p s : ℕ) (good : slot_in_range l k p s ≡ true) wher
   step_high = elim region [ inl a ↦ omega arith | inr (inl b) ↦ omega arith | inr (inr c) ↦ omega arith ]
 
   pub first_step : k < 2 → s ≡ 0
-  first_step first = elim region [ inl a ↦ a.step | inr (inl b) ↦ absurd (omega arith) | inr (inr c) ↦ absurd (omega arith) ]
+  first_step first = elim region [
+    | inl a ↦ a.step
+    | inr (inl b) ↦ absurd (omega arith)
+    | inr (inr c) ↦ absurd
+        (omega arith)
+  ]
 
   pub later_low : 2 ≤ k → 2 ≤ s
   later_low later = elim region [ inl a ↦ absurd (omega arith) | inr (inl b) ↦ b.low | inr (inr c) ↦ c.low ]

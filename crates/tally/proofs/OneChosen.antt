@@ -1,7 +1,9 @@
--- The chosen value: there is at most one that a quorum of soft votes is for, so it can be looked for by any way. Assumes
--- nothing.
-use Rattle.std.proofs.Common.{◌≡◌, ℕ, ◌+◌, ◌*◌, ◌≤◌, Bool, true, false, cond, ◌&&◌, eqb, ◌⊎◌, List, [], ◌∷◌, sym, refl, ap, ◌∙◌, inl, inr, ⊎_elim, zero-add, arith}
-use Rattle.std.proofs.lemmas.Bool.{both_ways, and_parts, and_from, and_left, and_right, eqb-true, eq-eqb, leb-true, cases_Bool, cases_eq, cond-true, cond-false}
+-- The chosen value: there is at most one that a quorum of soft votes is for, so it can be looked for by any way.
+-- Assumes nothing.
+use Rattle.std.proofs.Common.{◌≡◌, ℕ, ◌+◌, ◌*◌, ◌≤◌, Bool, true, false, cond, ◌&&◌, eqb, ◌⊎◌, List, [], ◌∷◌, sym, refl}
+use Rattle.std.proofs.Common.{ap, ◌∙◌, inl, inr, ⊎_elim, zero-add, arith}
+use Rattle.std.proofs.lemmas.Bool.{both_ways, and_parts, and_from, and_left, and_right, eqb-true, eq-eqb, leb-true}
+use Rattle.std.proofs.lemmas.Bool.{cases_Bool, cases_eq, cond-true, cond-false}
 use Rattle.protocol.specs.Vote.{soft, Vote, Limits, is_for, count, quorum, has_quorum}
 use Rattle.protocol.specs.Member.{is_in, chosen_in, vote_in_range}
 use Rattle.protocol.proofs.Ranges.{Ranged, ranged}

@@ -1,5 +1,6 @@
 -- When the votes' part of memory holds the votes that were heard. Assumes nothing: these are definitions.
-use Rattle.std.specs.Prelude.{◌≡◌, ℕ, zero, suc, ◌+◌, ◌*◌, ◌<◌, Bool, true, false, cond, ◌&&◌, ◌||◌, List, [], ◌∷◌, ◌==◌, slice_index}
+use Rattle.std.specs.Prelude.{◌≡◌, ℕ, zero, suc, ◌+◌, ◌*◌, ◌<◌, Bool, true, false, cond, ◌&&◌, ◌||◌, List, [], ◌∷◌}
+use Rattle.std.specs.Prelude.{◌==◌, slice_index}
 use Rattle.protocol.specs.Vote.{cert, Vote, Limits, has_quorum}
 use Rattle.protocol.specs.Member.{vote_in_range}
 use Rattle.protocol.specs.Network.{all_different, how_many}

@@ -1,6 +1,7 @@
 -- Words of eight bytes: the number that each writes, as the standard library has it, and what they write together.
 -- Assumes nothing.
-use Rattle.std.proofs.Common.{◌≡◌, ℕ, zero, suc, ◌+◌, ◌*◌, ◌/◌, ◌%◌, ◌^◌, List, [], ◌∷◌, map, length, get_or, take, drop, sym, refl, ap, ◌∙◌, arith, length-drop, length-take}
+use Rattle.std.proofs.Common.{◌≡◌, ℕ, zero, suc, ◌+◌, ◌*◌, ◌/◌, ◌%◌, ◌^◌, List, [], ◌∷◌, map, length, get_or, take}
+use Rattle.std.proofs.Common.{drop, sym, refl, ap, ◌∙◌, arith, length-drop, length-take}
 use native.Mathlib.Nat.{div-div-eq-div-mul}
 use Rattle.std.specs.Simd.{first_chunks}
 use Rattle.std.proofs.lemmas.List.{take-append-drop}
@@ -12,7 +13,8 @@ use Rattle.values.proofs.Places.{places, places_all}
 abbrev pub by_places : List ℕ → ℕ
 by_places xs =
     get_or xs 0 0 + get_or xs 1 0 * 256 + get_or xs 2 0 * 65536 + get_or xs 3 0 * 16777216
-    + get_or xs 4 0 * 4294967296 + get_or xs 5 0 * 1099511627776 + get_or xs 6 0 * 281474976710656 + get_or xs 7 0 * 72057594037927936
+    + get_or xs 4 0 * 4294967296 + get_or xs 5 0 * 1099511627776 + get_or xs 6 0 * 281474976710656 + get_or xs 7 0 *
+    72057594037927936
 
 pub word_number : (n : ℕ) (xs word : List ℕ) → n ≡ by_places xs → xs ≡ word → length word ≡ 8 → n ≡ le_number word
 unfolding places number_in
@@ -28,7 +30,8 @@ unfolding digits
 word_bytes n = simp div-div-eq-div-mul
 
 -- the numbers of words are the limbs of the number that all of the bytes write
-pub words_number : (k : ℕ) (bs : List ℕ) → length bs ≡ 8 * k → number_of (map le_number (first_chunks 8 k bs)) ≡ le_number bs
+pub words_number : (k : ℕ) (bs : List ℕ) → length bs ≡ 8 * k →
+    number_of (map le_number (first_chunks 8 k bs)) ≡ le_number bs
 unfolding number_in
 words_number zero [] long = refl
 words_number zero (b ∷ bs) long = absurd (omega arith)

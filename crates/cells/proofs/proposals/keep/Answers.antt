@@ -2,7 +2,8 @@ use Rattle.std.proofs.Common.{◌≡◌, ◌+◌, ◌<◌, ◌≤◌, ◌⊎◌,
 use Rattle.cells.specs.Proposals.{seat, valid_proposal, proposal_limits}
 use Rattle.cells.proofs.Best.{proposes_more, better_new, better_old, proposal_written, proposal_only}
 use Rattle.cells.proofs.proposals.keep.Goals as goal
-use Rattle.cells.proofs.proposals.keep.Goals.{then-proposals-start-eq0-via-then-proposals-start-eq0, then-proposals-start-eq0-via-else-proposals-start-eq0+then-proposal-proposals}
+use Rattle.cells.proofs.proposals.keep.Goals.{then-proposals-start-eq0-via-then-proposals-start-eq0}
+use Rattle.cells.proofs.proposals.keep.Goals.{then-proposals-start-eq0-via-else-proposals-start-eq0+then-proposal-proposals}
 
 pub returns-then-proposals-start-eq0 : goal.returns-then-proposals-start-eq0
 returns-then-proposals-start-eq0 c =
@@ -10,7 +11,12 @@ returns-then-proposals-start-eq0 c =
     let o = valid_proposal c.args.proposal in
     let part = c.args.proposals.now in
     let now = c.put_value.new.part in
-    let within : seat o.period + 6 ≤ length part = omega (arith, c.requires.proposals, c.args.proposal.some_period, c.args.proposal.few_periods) in
+    let within : seat o.period + 6 ≤ length part = omega (
+      arith,
+      c.requires.proposals,
+      c.args.proposal.some_period,
+      c.args.proposal.few_periods,
+    ) in
     let is = proposal_written part now o.period o.rank _ within c.put_value.ensures.only
     c.put_value.ensures.is in
     let only =
@@ -24,7 +30,8 @@ returns-then-proposals-start-eq0 c =
     ] in
     record {
       is = λ os h.
-          proposes_more l part now o os h c.args.proposal.some_period c.args.proposal.few_periods (is ∙ sym (better_new part o why)) only;
+          proposes_more l part now o os h c.args.proposal.some_period c.args.proposal.few_periods
+          (is ∙ sym (better_new part o why)) only;
       only = only;
     }
 

@@ -9,7 +9,8 @@ use Rattle.tally.proofs.Index.{alone_good, onward-good, vote-good}
 use Rattle.examples.proofs.tally_rows.at_place.Goals as goal
 use Rattle.examples.proofs.tally_rows.at_place.Goals.{in-0, in-1, in-2-to-9, in_default}
 
-slot_at : (l : Limits) (p k s k' s' : ℕ) → k ≡ k' → s ≡ s' → slot_in_range l k' p s' ≡ true → slot_in_range l k p s ≡ true
+slot_at : (l : Limits) (p k s k' s' : ℕ) → k ≡ k' → s ≡ s' → slot_in_range l k' p s' ≡ true →
+    slot_in_range l k p s ≡ true
 slot_at l p k s k' s' d e h = (λ i. slot_in_range l (d i) p (e i)) ∙ h
 
 pub returns : goal.returns

@@ -7,7 +7,8 @@ use Rattle.cells.specs.Blocks.{blocks_in}
 use Rattle.tally.proofs.Index.{alone_good, row_within}
 use Rattle.tally.proofs.OneChosen.{chosen-out, chosen_majority}
 use Rattle.tally.proofs.decided.chosen.Goals as goal
-use Rattle.tally.proofs.decided.chosen.Goals.{else-quorum_for-via-then-quorum_for+else-has_block, else-quorum_for-via-else-quorum_for}
+use Rattle.tally.proofs.decided.chosen.Goals.{else-quorum_for-via-then-quorum_for+else-has_block}
+use Rattle.tally.proofs.decided.chosen.Goals.{else-quorum_for-via-else-quorum_for}
 
 pub returns-then-period-lt1 : goal.returns-then-period-lt1
 returns-then-period-lt1 c =

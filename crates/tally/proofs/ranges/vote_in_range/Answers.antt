@@ -11,16 +11,28 @@ use Rattle.tally.proofs.InRange.{not_in_range, first_range, later_range}
 use Rattle.tally.proofs.ranges.vote_in_range.Goals as goal
 
 pub returns-in_default : goal.returns-in_default
-returns-in_default c = record { is = not_in_range _ _ (λ r. some_kind c.args.vote.kind (ranged _ _ r).kinds (sym c.of.ensures.is ∙ c.in_default.is)) }
+returns-in_default c = record {
+  is = not_in_range _ _ (λ r. some_kind c.args.vote.kind (ranged _ _ r).kinds
+      (sym c.of.ensures.is ∙ c.in_default.is));
+}
 
 pub returns-then-vote-lt1 : goal.returns-then-vote-lt1
-returns-then-vote-lt1 c = record { is = not_in_range _ _ (λ r. omega (arith, (ranged _ _ r).from_1, c.if-vote-lt1.true)) }
+returns-then-vote-lt1 c = record {
+  is = not_in_range _ _
+      (λ r. omega (arith, (ranged _ _ r).from_1, c.if-vote-lt1.true));
+}
 
 pub returns-then-vote-limits : goal.returns-then-vote-limits
-returns-then-vote-limits c = record { is = not_in_range _ _ (λ r. omega (arith, (ranged _ _ r).periods, c.if-vote-limits.true)) }
+returns-then-vote-limits c = record {
+  is = not_in_range _ _
+      (λ r. omega (arith, (ranged _ _ r).periods, c.if-vote-limits.true));
+}
 
 pub returns-then-vote-limits-2 : goal.returns-then-vote-limits-2
-returns-then-vote-limits-2 c = record { is = not_in_range _ _ (λ r. omega (arith, (ranged _ _ r).member, c.if-vote-limits-2.true)) }
+returns-then-vote-limits-2 c = record {
+  is = not_in_range _ _
+      (λ r. omega (arith, (ranged _ _ r).member, c.if-vote-limits-2.true));
+}
 
 pub returns-in-Soft : goal.returns-in-Soft
 returns-in-Soft c =
@@ -29,9 +41,11 @@ returns-in-Soft c =
     let of = sym c.of.ensures.is ∙ c.in-Some.is in
     let first : v.kind < next =
     elim c.in-Soft.is
-    [ inl e ↦ omega (arith, is-soft v.kind (of ∙ ap Some e)) | inr e ↦ omega (arith, is-cert v.kind (of ∙ ap Some e)) ] in
+    [ inl e ↦ omega (arith, is-soft v.kind (of ∙ ap Some e)) | inr e ↦ omega (arith, is-cert v.kind (of ∙ ap Some e)) ]
+    in
     record {
-      is = first_range (limits_of all c.args.limits) v c.if-vote-lt1.false c.if-vote-limits.false c.if-vote-limits-2.false
+      is = first_range (limits_of all c.args.limits) v c.if-vote-lt1.false c.if-vote-limits.false
+          c.if-vote-limits-2.false
           (value_below x.limbs x.four x.fit) first;
     }
 
@@ -41,7 +55,8 @@ returns-in-Next c =
     let x = c.args.vote.value in
     let kind : v.kind ≡ next = is-next v.kind (sym c.of.ensures.is ∙ c.in-Some.is ∙ ap Some c.in-Next.is) in
     record {
-      is = later_range (limits_of all c.args.limits) v c.if-vote-lt1.false c.if-vote-limits.false c.if-vote-limits-2.false
+      is = later_range (limits_of all c.args.limits) v c.if-vote-lt1.false c.if-vote-limits.false
+          c.if-vote-limits-2.false
           (value_below x.limbs x.four x.fit) c.is_later_step.result c.is_later_step.ensures.is
           (omega (arith, kind)) (omega (arith, kind)) (λ h. absurd (omega (arith, kind, h)));
     }
@@ -51,7 +66,10 @@ returns-then-not-is_zero c =
     let v : Vote = vote_of c.args.vote in
     let kind : v.kind ≡ next_none =
     is-next_none v.kind (sym c.of.ensures.is ∙ c.in-Some.is ∙ ap Some c.in-NextNone.is) in
-    record { is = not_in_range _ v (λ r. eqb-false v.value 0 (sym c.is_zero.ensures.is ∙ c.if-not-is_zero.true) ((ranged _ v r).no_value kind)) }
+    record {
+      is = not_in_range _ v (λ r. eqb-false v.value 0 (sym c.is_zero.ensures.is ∙ c.if-not-is_zero.true)
+          ((ranged _ v r).no_value kind));
+    }
 
 pub returns-else-not-is_zero : goal.returns-else-not-is_zero
 returns-else-not-is_zero c =
@@ -60,7 +78,9 @@ returns-else-not-is_zero c =
     let kind : v.kind ≡ next_none =
     is-next_none v.kind (sym c.of.ensures.is ∙ c.in-Some.is ∙ ap Some c.in-NextNone.is) in
     record {
-      is = later_range (limits_of all c.args.limits) v c.if-vote-lt1.false c.if-vote-limits.false c.if-vote-limits-2.false
+      is = later_range (limits_of all c.args.limits) v c.if-vote-lt1.false c.if-vote-limits.false
+          c.if-vote-limits-2.false
           (value_below x.limbs x.four x.fit) c.is_later_step-in-NextNone.result c.is_later_step-in-NextNone.ensures.is
-          (omega (arith, kind)) (omega (arith, kind)) (λ h. eqb-true v.value 0 (sym c.is_zero.ensures.is ∙ c.if-not-is_zero.false));
+          (omega (arith, kind)) (omega (arith, kind)) (λ h. eqb-true v.value 0
+          (sym c.is_zero.ensures.is ∙ c.if-not-is_zero.false));
     }

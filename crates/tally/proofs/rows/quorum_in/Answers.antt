@@ -5,7 +5,8 @@ use Rattle.protocol.specs.Vote.{quorum}
 use Rattle.tally.specs.Votes.{row_count}
 use Rattle.tally.proofs.Counting.{row-none, row_yes, row_no, row_grows}
 use Rattle.tally.proofs.rows.quorum_in.Goals as goal
-use Rattle.tally.proofs.rows.quorum_in.Goals.{then-is_for+else-count-quorum, else-is_for, else-votes-test, then-votes-test+then-is_for+then-count-quorum}
+use Rattle.tally.proofs.rows.quorum_in.Goals.{then-is_for+else-count-quorum, else-is_for, else-votes-test}
+use Rattle.tally.proofs.rows.quorum_in.Goals.{then-votes-test+then-is_for+then-count-quorum}
 
 pub votes-init : goal.votes-init
 votes-init c =

@@ -1,4 +1,5 @@
-use Rattle.std.proofs.Common.{◌≡◌, ℕ, ◌/◌, ◌<◌, [], ◌∷◌, length, get_or, sym, ap, ◌∙◌, arith, length-drop, length-take, rules}
+use Rattle.std.proofs.Common.{◌≡◌, ℕ, ◌/◌, ◌<◌, [], ◌∷◌, length, get_or, sym, ap, ◌∙◌, arith, length-drop, length-take}
+use Rattle.std.proofs.Common.{rules}
 use Rattle.std.specs.Simd.{first_chunks}
 use Rattle.values.specs.Digits.{number_of, le_number, digits}
 use Rattle.values.specs.Values.{value_of}
