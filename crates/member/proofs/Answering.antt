@@ -10,7 +10,7 @@ use Rattle.values.specs.declared.value.Value.{Value}
 use Rattle.wire.specs.Meaning.{agreed_of}
 use Rattle.cells.specs.Cells.{listed, Only}
 use Rattle.member.specs.Header.{Header}
-use Rattle.moves.specs.Parts.{of-header, of-votes, of-proposals, of_blocks, of-rest, votes_end, proposals_end}
+use Rattle.moves.specs.Parts.{of_header, of_votes, of_proposals, of_blocks, of_rest, votes_end, proposals_end}
 use Rattle.moves.specs.Parts.{blocks_end, part, OnlyIn}
 use Rattle.member.proofs.Stores.{option_same}
 use Rattle.moves.specs.declared.state.Member as code
@@ -34,15 +34,15 @@ module _ (l : Limits) (a b : List ℕ) (only : Only 0 64 a b) (long : length b �
           get_or-drop n b k d ∙ get_or_default b (n + k) d 0 (omega arith) ∙ only (n + k) (inr (omega arith))
           ∙ get_or_default a (n + k) 0 d (omega arith) ∙ sym (get_or-drop n a k d)
 
-  pub only-header : OnlyIn of-header l a b
-  only-header of-header same = absurd (true≢false same)
-  only-header of-votes other = ap (take (votes_end l - 64)) (behind 64 (omega arith))
-  only-header of-proposals other = ap (take (proposals_end l - votes_end l)) (behind (votes_end l) (omega arith))
+  pub only-header : OnlyIn of_header l a b
+  only-header of_header same = absurd (true≢false same)
+  only-header of_votes other = ap (take (votes_end l - 64)) (behind 64 (omega arith))
+  only-header of_proposals other = ap (take (proposals_end l - votes_end l)) (behind (votes_end l) (omega arith))
   only-header of_blocks other = ap (take (blocks_end l - proposals_end l)) (behind (proposals_end l) (omega arith))
-  only-header of-rest other = behind (blocks_end l) (omega arith)
+  only-header of_rest other = behind (blocks_end l) (omega arith)
 
 -- a header stays where its numbers do
-module _ (a b : List ℕ) (x : code.Member) (l : Limits) (same : part of-header l b ≡ part of-header l a)
+module _ (a b : List ℕ) (x : code.Member) (l : Limits) (same : part of_header l b ≡ part of_header l a)
     (long : length b ≡ length a) where
   number_same : (i : ℕ) → i < 64 → get_or b i 0 ≡ get_or a i 0
   number_same i h =

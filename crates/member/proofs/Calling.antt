@@ -16,7 +16,7 @@ use Rattle.member.specs.Answered.{Carries, Answered}
 use Rattle.member.specs.Calls.{taking_all, Kept, Called, IsNotOpen, Looks}
 use Rattle.moves.specs.Events.{Lone}
 use Rattle.member.specs.Header.{Header}
-use Rattle.moves.specs.Parts.{part, of-votes, of-proposals, of_blocks, of-rest}
+use Rattle.moves.specs.Parts.{part, of_votes, of_proposals, of_blocks, of_rest}
 use Rattle.moves.specs.Stands.{lim, Stands}
 use Rattle.moves.specs.declared.state.Member as code
 use Rattle.member.proofs.Takes.{all_taken, same_refusal, same_answer, same_after, same_member}
@@ -40,8 +40,8 @@ module _ (mem : List ℕ) (x y : code.Member) (hx : Header mem x) (hy : Header m
     free = sym hx.place.free ∙ hy.place.free ∙ h.free;
     certain = sym hx.place.certain ∙ hy.place.certain ∙ h.certain;
     agreed = sym hx.agreed ∙ hy.agreed ∙ h.agreed;
-    votes = subst (λ (l : Limits). Holds l (part of-votes l mem) m.votes) (sym same_limits) h.votes;
-    proposals = subst (λ (l : Limits). Proposes l (part of-proposals l mem) m.proposals) (sym same_limits) h.proposals;
+    votes = subst (λ (l : Limits). Holds l (part of_votes l mem) m.votes) (sym same_limits) h.votes;
+    proposals = subst (λ (l : Limits). Proposes l (part of_proposals l mem) m.proposals) (sym same_limits) h.proposals;
     blocks = ap (λ (n : ℕ). blocks_in (part of_blocks (lim x) mem) n) (sym hx.place.blocks ∙ hy.place.blocks)
         ∙ ap (λ (l : Limits). blocks_in (part of_blocks l mem) y.blocks) same_limits ∙ h.blocks;
   }
@@ -102,8 +102,8 @@ module _ (mem : List ℕ) (x : code.Member) (hx : Header mem x) (l : Limits) (i 
         ap (λ (j : Limits). refusal j m₀ e) is_l ∙ same_refusal l all l.takes all_taken k.takes m₀ e
         ∙ ap (λ (m : Member). refusal l m e) is_m
 
-    rest-is : part of-rest l new ≡ part of-rest l mem
-    rest-is = subst (λ (j : Limits). part of-rest j new ≡ part of-rest j mem) is_l ans.rest
+    rest-is : part of_rest l new ≡ part of_rest l mem
+    rest-is = subst (λ (j : Limits). part of_rest j new ≡ part of_rest j mem) is_l ans.rest
 
 -- an event that can be read
 pub called : (mem new : List ℕ) (x : code.Member) (e : Event) (a : code-answer.Answer) → Header mem x →

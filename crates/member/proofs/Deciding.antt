@@ -16,7 +16,7 @@ use Rattle.member.specs.Answered.{Carries, Answered}
 use Rattle.moves.specs.Events.{Did, KeptParts}
 use Rattle.member.specs.Header.{Header}
 use Rattle.moves.specs.Moves.{Same}
-use Rattle.moves.specs.Parts.{of-header, of-rest, OnlyIn}
+use Rattle.moves.specs.Parts.{of_header, of_rest, OnlyIn}
 use Rattle.moves.specs.Stands.{lim, Stands}
 use Rattle.moves.specs.declared.state.Member as code
 use Rattle.member.proofs.Answering.{header-kept, refused-answer, refused-after, taken_answer, taken_after, by_last}
@@ -93,7 +93,7 @@ pub done : (x y : code.Member) (mem mid new : List ℕ) (m : Member) (e : Event)
     refusal (lim x) m e ≡ 0 → Same x y → Header mem x → KeptParts (lim x) mem mid → length mid ≡ length mem →
     Did y mid said (does (lim x) m e) → answer_of a ≡ says said (listed y.agreed) →
     ((z : code.Member) (k : Member) → Header mid z → Same z y → Stands y mid k → Carries (lim y) y.me new k) →
-    OnlyIn of-header (lim y) mid new → Answered x mem new m e a
+    OnlyIn of_header (lim y) mid new → Answered x mem new m e a
 done x y mem mid new m e a said r same header kept long did is carries only =
     let there : Carries (lim y) y.me new (does (lim x) m e).member =
     carries x _ (header-kept mem mid x (lim x) kept.header long header) same did.stands in
@@ -103,7 +103,7 @@ done x y mem mid new m e a said r same header kept long did is carries only =
           (subst (λ (l : protocol.Limits). Carries l x.me new (does (lim x) m e).member) (same_lim x y same)
           (subst (λ (i : ℕ). Carries (lim y) i new (does (lim x) m e).member) same.me there));
       kept = λ h. absurd (omega (arith, h, r));
-      rest = same_only x y same of-header mid new only of-rest refl ∙ kept.rest;
+      rest = same_only x y same of_header mid new only of_rest refl ∙ kept.rest;
     }
 
 -- the refusals of an event of the code point at place 0

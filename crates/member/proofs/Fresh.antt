@@ -21,7 +21,7 @@ use Rattle.tally.proofs.Heard.{holds_none}
 use Rattle.tally.proofs.Index.{parts_size}
 use Rattle.cells.proofs.Best.{proposes_none}
 use Rattle.cells.proofs.Here.{here_none}
-use Rattle.moves.specs.Parts.{part, of-votes, of-proposals, of_blocks, of-rest, votes_end, proposals_end, blocks_end}
+use Rattle.moves.specs.Parts.{part, of_votes, of_proposals, of_blocks, of_rest, votes_end, proposals_end, blocks_end}
 use Rattle.moves.specs.Parts.{Blank}
 
 -- the parts are as long together as the limits ask for
@@ -52,11 +52,11 @@ module _ (l : Limits) (mem mid new : List ℕ) (blank : Blank l mem mid) (only :
       (λ (h : j - i ≤ k). get_or_past (take (j - i) (drop i new)) k 0 (simp length-take (omega arith)))
       (cases_lt k (j - i))
 
-  pub no_votes : Holds l (part of-votes l new) []
-  no_votes = holds_none l (part of-votes l new) (λ k. zero_in 64 (votes_end l) k (omega arith) (omega arith))
+  pub no_votes : Holds l (part of_votes l new) []
+  no_votes = holds_none l (part of_votes l new) (λ k. zero_in 64 (votes_end l) k (omega arith) (omega arith))
 
-  pub no_proposals : Proposes l (part of-proposals l new) []
-  no_proposals = proposes_none l (part of-proposals l new)
+  pub no_proposals : Proposes l (part of_proposals l new) []
+  no_proposals = proposes_none l (part of_proposals l new)
       (λ k. zero_in (votes_end l) (proposals_end l) k (omega arith) (omega arith))
 
   pub no_blocks : blocks_in (part of_blocks l new) 0 ≡ []
@@ -67,7 +67,7 @@ pub opening : (members periods steps blocks i : ℕ) (sizes : sizes.Limits) (mem
     ((sizes.members ≡ members) × (sizes.periods ≡ periods) × (sizes.steps ≡ steps) × (sizes.blocks ≡ blocks)) →
     i < members →
     Carries (limits_of all sizes) i new (new_member i) →
-    part of-rest (limits_of all sizes) new ≡ part of-rest (limits_of all sizes) mem → length new ≡ length mem →
+    part of_rest (limits_of all sizes) new ≡ part of_rest (limits_of all sizes) mem → length new ≡ length mem →
     all_words new ≡ true →
     Opening members periods steps blocks i mem new
 unfolding member_after
@@ -78,7 +78,7 @@ opening members periods steps blocks i sizes mem new made low carries rest long 
     carries = subst (λ (k : Limits). Carries k i new (new_member i)) (same l h)
         carries;
   };
-  rest = λ l h. subst (λ (k : Limits). part of-rest k new ≡ part of-rest k mem) (same l h) rest;
+  rest = λ l h. subst (λ (k : Limits). part of_rest k new ≡ part of_rest k mem) (same l h) rest;
   long = long;
   words = words;
 }

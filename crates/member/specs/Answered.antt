@@ -6,7 +6,7 @@ use Rattle.wire.specs.declared.answers.Answer.{Answer}
 use Rattle.wire.specs.Meaning.{answer_of}
 use Rattle.member.specs.Header.{Header}
 use Rattle.moves.specs.Moves.{OfMember}
-use Rattle.moves.specs.Parts.{part, of-rest}
+use Rattle.moves.specs.Parts.{part, of_rest}
 use Rattle.moves.specs.Stands.{lim, Stands}
 use Rattle.moves.specs.declared.state.Member.{Member}
 
@@ -25,4 +25,4 @@ pub record Answered (x : Member) (mem new : List ℕ) (m : OfMember) (e : Event)
   pub is : answer_of a ≡ answer (lim x) m e
   pub carries : Carries (lim x) x.me new (after (lim x) m e)
   pub kept : 0 < refusal (lim x) m e → new ≡ mem
-  pub rest : part of-rest (lim x) new ≡ part of-rest (lim x) mem
+  pub rest : part of_rest (lim x) new ≡ part of_rest (lim x) mem

@@ -12,7 +12,7 @@ use Rattle.wire.specs.Meaning.{answer_of}
 use Rattle.member.specs.Answered.{Carries}
 use Rattle.member.specs.Header.{Header}
 use Rattle.moves.specs.Moves.{OfMember}
-use Rattle.moves.specs.Parts.{part, of-rest}
+use Rattle.moves.specs.Parts.{part, of_rest}
 use Rattle.moves.specs.Stands.{Stands}
 use Rattle.member.specs.declared.calls.OpenError.{OpenError}
 use Rattle.member.specs.declared.calls.OpenError.TheVariants.{OutOfRange, NotMember, TooShort}
@@ -41,7 +41,7 @@ pub record Called (mem : List ℕ) (e : Event) (new : List ℕ) (a : Answer) : T
   pub kept : (l : protocol.Limits) (i : ℕ) (es : List Event) → Kept l i es mem → Kept l i (e ∷ es) new
   pub refused : (l : protocol.Limits) (i : ℕ) (es : List Event) → Kept l i es mem →
       0 < refusal l (member_after l i es) e → new ≡ mem
-  pub rest : (l : protocol.Limits) (i : ℕ) (es : List Event) → Kept l i es mem → part of-rest l new ≡ part of-rest l mem
+  pub rest : (l : protocol.Limits) (i : ℕ) (es : List Event) → Kept l i es mem → part of_rest l new ≡ part of_rest l mem
   pub long : length new ≡ length mem
   pub words : all_words mem ≡ true → all_words new ≡ true
 
@@ -84,7 +84,7 @@ pub record OfNumbers (ms ps ss bs : ℕ) (l : protocol.Limits) : Type 0 where
 pub record Opening (members periods steps blocks i : ℕ) (mem new : List ℕ) : Type 0 where
   pub member : i < members
   pub is : (l : protocol.Limits) → OfNumbers members periods steps blocks l → Opened l i new
-  pub rest : (l : protocol.Limits) → OfNumbers members periods steps blocks l → part of-rest l new ≡ part of-rest l mem
+  pub rest : (l : protocol.Limits) → OfNumbers members periods steps blocks l → part of_rest l new ≡ part of_rest l mem
   pub long : length new ≡ length mem
   pub words : all_words new ≡ true
 

@@ -6,7 +6,7 @@ ghost use Rattle.values.specs.Values.{value_of};
 ghost use Rattle.wire.specs.Meaning.{vote_of, proposal_of, event_of, said_of, answer_of};
 ghost use Rattle.cells.specs.Cells.{listed};
 ghost use Rattle.member.specs.Header.{Header};
-ghost use Rattle.moves.specs.Parts.{OnlyIn, of-header};
+ghost use Rattle.moves.specs.Parts.{OnlyIn, of_header};
 ghost use Rattle.moves.specs.Stands.{lim, Stands};
 ghost use Rattle.moves.specs.Moves.{OfMember, Same};
 ghost use Rattle.moves.specs.Events.{Ready, Lone};
@@ -24,7 +24,7 @@ fn says(member: Member, memory: &mut [u64], said: Said) -> Answer
     ensures is { answer_of result ≡ says (said_of said) (listed member.agreed) }
     ensures carries { (x : Member) (m : OfMember) → Header memory.old x → Same x member →
         Stands member memory.old m → Carries (lim member) member.me memory.new m }
-    ensures only { OnlyIn of-header (lim member) memory.old memory.new }
+    ensures only { OnlyIn of_header (lim member) memory.old memory.new }
 {
     store(memory, member);
     Answer::Says(said, member.agreed)

@@ -8,7 +8,7 @@ ghost use Rattle.wire.specs.Bytes.{event_in};
 ghost use Rattle.wire.specs.Meaning.{event_of};
 ghost use Rattle.member.specs.Answered.{Carries};
 ghost use Rattle.member.specs.Calls.{IsOpen, ByOpen, ByCall};
-ghost use Rattle.moves.specs.Parts.{part, of-rest, Blank};
+ghost use Rattle.moves.specs.Parts.{part, of_rest, Blank};
 
 use super::answers::answer_to;
 use super::calls::{NotOpen, OpenError};
@@ -32,8 +32,8 @@ fn write_new(memory: &mut [u64], limits: Limits, me: u64)
     requires long { memory_size (limits_of all limits) ≤ length memory.old }
     requires me { me < limits.members }
     ensures is { Carries (limits_of all limits) me memory.new (new_member me) }
-    ensures rest { part of-rest (limits_of all limits) memory.new
-        ≡ part of-rest (limits_of all limits) memory.old }
+    ensures rest { part of_rest (limits_of all limits) memory.new
+        ≡ part of_rest (limits_of all limits) memory.old }
 {
     blank(memory, limits);
     let member = Member {

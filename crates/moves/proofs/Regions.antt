@@ -5,7 +5,7 @@ use Rattle.std.specs.List.{between}
 use Rattle.std.proofs.lemmas.Slice.{between_is, take-put_mid_below, drop-put_mid, between-put_mid}
 use Rattle.std.proofs.lemmas.Bool.{true≢false}
 use Rattle.protocol.specs.Vote.{Limits}
-use Rattle.moves.specs.Parts.{of-header, of-votes, of-proposals, of_blocks, of-rest, votes_end, proposals_end}
+use Rattle.moves.specs.Parts.{of_header, of_votes, of_proposals, of_blocks, of_rest, votes_end, proposals_end}
 use Rattle.moves.specs.Parts.{blocks_end, OnlyIn}
 
 -- the numbers from s up to e written anew
@@ -30,23 +30,23 @@ module _ (mem ys : List ℕ) (s e : ℕ) (forward : s ≤ e) (within : e ≤ len
   put_after : (i j : ℕ) → e ≤ i → between i j new ≡ between i j mem
   put_after i j h = ap (take (j - i)) (put_rest i h)
 
-  pub put_votes : (l : Limits) → s ≡ 64 → e ≡ votes_end l → OnlyIn of-votes l mem new
-  put_votes l h k of-header tt' = put_before 0 64 (omega arith)
-  put_votes l h k of-votes same = absurd (true≢false same)
-  put_votes l h k of-proposals tt' = put_after (votes_end l) (proposals_end l) (omega arith)
+  pub put_votes : (l : Limits) → s ≡ 64 → e ≡ votes_end l → OnlyIn of_votes l mem new
+  put_votes l h k of_header tt' = put_before 0 64 (omega arith)
+  put_votes l h k of_votes same = absurd (true≢false same)
+  put_votes l h k of_proposals tt' = put_after (votes_end l) (proposals_end l) (omega arith)
   put_votes l h k of_blocks tt' = put_after (proposals_end l) (blocks_end l) (omega arith)
-  put_votes l h k of-rest tt' = put_rest (blocks_end l) (omega arith)
+  put_votes l h k of_rest tt' = put_rest (blocks_end l) (omega arith)
 
-  pub put_proposals : (l : Limits) → s ≡ votes_end l → e ≡ proposals_end l → OnlyIn of-proposals l mem new
-  put_proposals l h k of-header tt' = put_before 0 64 (omega arith)
-  put_proposals l h k of-votes tt' = put_before 64 (votes_end l) (omega arith)
-  put_proposals l h k of-proposals same = absurd (true≢false same)
+  pub put_proposals : (l : Limits) → s ≡ votes_end l → e ≡ proposals_end l → OnlyIn of_proposals l mem new
+  put_proposals l h k of_header tt' = put_before 0 64 (omega arith)
+  put_proposals l h k of_votes tt' = put_before 64 (votes_end l) (omega arith)
+  put_proposals l h k of_proposals same = absurd (true≢false same)
   put_proposals l h k of_blocks tt' = put_after (proposals_end l) (blocks_end l) (omega arith)
-  put_proposals l h k of-rest tt' = put_rest (blocks_end l) (omega arith)
+  put_proposals l h k of_rest tt' = put_rest (blocks_end l) (omega arith)
 
   pub put_blocks : (l : Limits) → s ≡ proposals_end l → e ≡ blocks_end l → OnlyIn of_blocks l mem new
-  put_blocks l h k of-header tt' = put_before 0 64 (omega arith)
-  put_blocks l h k of-votes tt' = put_before 64 (votes_end l) (omega arith)
-  put_blocks l h k of-proposals tt' = put_before (votes_end l) (proposals_end l) (omega arith)
+  put_blocks l h k of_header tt' = put_before 0 64 (omega arith)
+  put_blocks l h k of_votes tt' = put_before 64 (votes_end l) (omega arith)
+  put_blocks l h k of_proposals tt' = put_before (votes_end l) (proposals_end l) (omega arith)
   put_blocks l h k of_blocks same = absurd (true≢false same)
-  put_blocks l h k of-rest tt' = put_rest (blocks_end l) (omega arith)
+  put_blocks l h k of_rest tt' = put_rest (blocks_end l) (omega arith)

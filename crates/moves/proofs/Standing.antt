@@ -11,13 +11,13 @@ use Rattle.tally.specs.Votes.{Holds}
 use Rattle.cells.specs.Proposals.{Proposes}
 use Rattle.cells.specs.Blocks.{blocks_in}
 use Rattle.moves.specs.Moves.{Same}
-use Rattle.moves.specs.Parts.{Part, part, of-header, of-votes, of-proposals, of_blocks, OnlyIn}
+use Rattle.moves.specs.Parts.{Part, part, of_header, of_votes, of_proposals, of_blocks, OnlyIn}
 use Rattle.moves.specs.Stands.{lim, Stands}
 use Rattle.moves.specs.declared.state.Member as code
 
 module _ (x : code.Member) (mem new : List ℕ) (m : Member) (h : Stands x mem m) where
   -- it heard a vote
-  pub heard : (v : Vote) → Holds (lim x) (part of-votes (lim x) new) (v ∷ m.votes) → OnlyIn of-votes (lim x) mem new →
+  pub heard : (v : Vote) → Holds (lim x) (part of_votes (lim x) new) (v ∷ m.votes) → OnlyIn of_votes (lim x) mem new →
       Stands x new (with_vote v m)
   heard v votes only = record {
     me = h.me;
@@ -28,13 +28,13 @@ module _ (x : code.Member) (mem new : List ℕ) (m : Member) (h : Stands x mem m
     certain = h.certain;
     agreed = h.agreed;
     votes = votes;
-    proposals = subst (λ (xs : List ℕ). Proposes (lim x) xs m.proposals) (sym (only of-proposals refl)) h.proposals;
+    proposals = subst (λ (xs : List ℕ). Proposes (lim x) xs m.proposals) (sym (only of_proposals refl)) h.proposals;
     blocks = ap (λ (xs : List ℕ). blocks_in xs x.blocks) (only of_blocks refl) ∙ h.blocks;
   }
 
   -- it keeps proposals
-  pub kept_best : (os : List Proposal) → Proposes (lim x) (part of-proposals (lim x) new) os →
-      OnlyIn of-proposals (lim x) mem new →
+  pub kept_best : (os : List Proposal) → Proposes (lim x) (part of_proposals (lim x) new) os →
+      OnlyIn of_proposals (lim x) mem new →
       Stands x new (with_proposals os m)
   kept_best os proposals only = record {
     me = h.me;
@@ -44,13 +44,13 @@ module _ (x : code.Member) (mem new : List ℕ) (m : Member) (h : Stands x mem m
     free = h.free;
     certain = h.certain;
     agreed = h.agreed;
-    votes = subst (λ (xs : List ℕ). Holds (lim x) xs m.votes) (sym (only of-votes refl)) h.votes;
+    votes = subst (λ (xs : List ℕ). Holds (lim x) xs m.votes) (sym (only of_votes refl)) h.votes;
     proposals = proposals;
     blocks = ap (λ (xs : List ℕ). blocks_in xs x.blocks) (only of_blocks refl) ∙ h.blocks;
   }
 
   -- its header was written
-  pub headed : OnlyIn of-header (lim x) mem new → Stands x new m
+  pub headed : OnlyIn of_header (lim x) mem new → Stands x new m
   headed only = record {
     me = h.me;
     period = h.period;
@@ -59,8 +59,8 @@ module _ (x : code.Member) (mem new : List ℕ) (m : Member) (h : Stands x mem m
     free = h.free;
     certain = h.certain;
     agreed = h.agreed;
-    votes = subst (λ (xs : List ℕ). Holds (lim x) xs m.votes) (sym (only of-votes refl)) h.votes;
-    proposals = subst (λ (xs : List ℕ). Proposes (lim x) xs m.proposals) (sym (only of-proposals refl)) h.proposals;
+    votes = subst (λ (xs : List ℕ). Holds (lim x) xs m.votes) (sym (only of_votes refl)) h.votes;
+    proposals = subst (λ (xs : List ℕ). Proposes (lim x) xs m.proposals) (sym (only of_proposals refl)) h.proposals;
     blocks = ap (λ (xs : List ℕ). blocks_in xs x.blocks) (only of_blocks refl) ∙ h.blocks;
   }
 

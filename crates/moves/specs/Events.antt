@@ -4,7 +4,7 @@ use Rattle.protocol.specs.Vote as protocol
 use Rattle.protocol.specs.Member.{Outcome, certified}
 use Rattle.safety.specs.Alone.{Fresh}
 use Rattle.moves.specs.Moves.{OfMember}
-use Rattle.moves.specs.Parts.{part, of-header, of-rest}
+use Rattle.moves.specs.Parts.{part, of_header, of_rest}
 use Rattle.moves.specs.Stands.{Stands}
 use Rattle.moves.specs.declared.state.Member.{Member}
 
@@ -27,5 +27,5 @@ pub record Did (x : Member) (mem : List ℕ) (said : List protocol.Vote) (d : Ou
 
 -- the header, and what the member does not use, are as they were
 pub record KeptParts (l : protocol.Limits) (before after : List ℕ) : Type 0 where
-  pub header : part of-header l after ≡ part of-header l before
-  pub rest : part of-rest l after ≡ part of-rest l before
+  pub header : part of_header l after ≡ part of_header l before
+  pub rest : part of_rest l after ≡ part of_rest l before

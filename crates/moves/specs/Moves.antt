@@ -4,7 +4,7 @@ use Rattle.protocol.specs.Vote as protocol
 use Rattle.protocol.specs.Vote.{cert, slot_taken, has_quorum}
 use Rattle.protocol.specs.Member.{is_some, own, in_period, vote_in_range, certified_in, agree_on, having_agreed}
 use Rattle.protocol.specs.Member.{silent, with_vote, at_step, soft_value, say_soft, chosen, next_vote}
-use Rattle.protocol.specs.Member as protocol-member
+use Rattle.protocol.specs.Member as protocol_member
 use Rattle.values.specs.declared.value.Value.{Value}
 use Rattle.values.specs.Values.{value_of}
 use Rattle.wire.specs.declared.votes.Vote.{Vote}
@@ -17,7 +17,7 @@ use Rattle.moves.specs.declared.state.Member.{Member}
 
 -- the protocol's member
 abbrev pub OfMember : Type 0
-OfMember = protocol-member.Member
+OfMember = protocol_member.Member
 
 -- a move leaves a member's limits and number
 pub record Same (x y : Member) : Type 0 where

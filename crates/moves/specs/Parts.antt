@@ -9,7 +9,7 @@ use Rattle.tally.specs.Layout.{votes_size}
 
 -- header, votes, proposals, blocks, and what the member does not use
 pub data Part : Type 0 where
-  of-header of-votes of-proposals of_blocks of-rest : Part
+  of_header of_votes of_proposals of_blocks of_rest : Part
 
 abbrev pub votes_end : Limits → ℕ
 votes_end l = 64 + votes_size l
@@ -21,38 +21,38 @@ abbrev pub blocks_end : Limits → ℕ
 blocks_end l = proposals_end l + blocks_size l
 
 abbrev pub part : Part → Limits → List ℕ → List ℕ
-part of-header l mem = between 0 64 mem
-part of-votes l mem = between 64 (votes_end l) mem
-part of-proposals l mem = between (votes_end l) (proposals_end l) mem
+part of_header l mem = between 0 64 mem
+part of_votes l mem = between 64 (votes_end l) mem
+part of_proposals l mem = between (votes_end l) (proposals_end l) mem
 part of_blocks l mem = between (proposals_end l) (blocks_end l) mem
-part of-rest l mem = drop (blocks_end l) mem
+part of_rest l mem = drop (blocks_end l) mem
 
 abbrev pub is_part : Part → Part → Bool
-is_part of-header of-header = true
-is_part of-header of-votes = false
-is_part of-header of-proposals = false
-is_part of-header of_blocks = false
-is_part of-header of-rest = false
-is_part of-votes of-header = false
-is_part of-votes of-votes = true
-is_part of-votes of-proposals = false
-is_part of-votes of_blocks = false
-is_part of-votes of-rest = false
-is_part of-proposals of-header = false
-is_part of-proposals of-votes = false
-is_part of-proposals of-proposals = true
-is_part of-proposals of_blocks = false
-is_part of-proposals of-rest = false
-is_part of_blocks of-header = false
-is_part of_blocks of-votes = false
-is_part of_blocks of-proposals = false
+is_part of_header of_header = true
+is_part of_header of_votes = false
+is_part of_header of_proposals = false
+is_part of_header of_blocks = false
+is_part of_header of_rest = false
+is_part of_votes of_header = false
+is_part of_votes of_votes = true
+is_part of_votes of_proposals = false
+is_part of_votes of_blocks = false
+is_part of_votes of_rest = false
+is_part of_proposals of_header = false
+is_part of_proposals of_votes = false
+is_part of_proposals of_proposals = true
+is_part of_proposals of_blocks = false
+is_part of_proposals of_rest = false
+is_part of_blocks of_header = false
+is_part of_blocks of_votes = false
+is_part of_blocks of_proposals = false
 is_part of_blocks of_blocks = true
-is_part of_blocks of-rest = false
-is_part of-rest of-header = false
-is_part of-rest of-votes = false
-is_part of-rest of-proposals = false
-is_part of-rest of_blocks = false
-is_part of-rest of-rest = true
+is_part of_blocks of_rest = false
+is_part of_rest of_header = false
+is_part of_rest of_votes = false
+is_part of_rest of_proposals = false
+is_part of_rest of_blocks = false
+is_part of_rest of_rest = true
 
 -- the other parts are as they were
 abbrev pub OnlyIn : Part → Limits → List ℕ → List ℕ → Type 0
@@ -61,7 +61,7 @@ OnlyIn p l before after = (q : Part) → is_part p q ≡ false → part q l afte
 -- zeros in all parts, and what the member does not use as it was
 pub record Blank (l : Limits) (before after : List ℕ) : Type 0 where
   pub zeros : (i : ℕ) → i < blocks_end l → slice_index after i ≡ 0
-  pub rest : part of-rest l after ≡ part of-rest l before
+  pub rest : part of_rest l after ≡ part of_rest l before
 
 -- BLOCKS
 

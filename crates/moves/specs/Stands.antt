@@ -8,7 +8,7 @@ use Rattle.cells.specs.Cells.{listed}
 use Rattle.tally.specs.Votes.{Holds}
 use Rattle.cells.specs.Proposals.{Proposes}
 use Rattle.cells.specs.Blocks.{blocks_in}
-use Rattle.moves.specs.Parts.{part, of-votes, of-proposals, of_blocks}
+use Rattle.moves.specs.Parts.{part, of_votes, of_proposals, of_blocks}
 use Rattle.moves.specs.declared.state.Member.{Member}
 
 -- the protocol's limits of a member
@@ -23,6 +23,6 @@ pub record Stands (x : Member) (mem : List ℕ) (m : protocol.Member) : Type 0 w
   pub free : x.free ≡ m.free
   pub certain : x.certain ≡ m.certain
   pub agreed : listed x.agreed ≡ m.agreed
-  pub votes : Holds (lim x) (part of-votes (lim x) mem) m.votes
-  pub proposals : Proposes (lim x) (part of-proposals (lim x) mem) m.proposals
+  pub votes : Holds (lim x) (part of_votes (lim x) mem) m.votes
+  pub proposals : Proposes (lim x) (part of_proposals (lim x) mem) m.proposals
   pub blocks : blocks_in (part of_blocks (lim x) mem) x.blocks ≡ m.blocks

@@ -6,7 +6,7 @@ ghost use Rattle.protocol.specs.Programs.{memory_size};
 ghost use Rattle.values.specs.Values.{value_of};
 ghost use Rattle.wire.specs.Meaning.{kind_number, vote_of};
 ghost use Rattle.cells.specs.Cells.{listed};
-ghost use Rattle.moves.specs.Parts.{OnlyIn, of-votes};
+ghost use Rattle.moves.specs.Parts.{OnlyIn, of_votes};
 ghost use Rattle.moves.specs.Stands.{lim, Stands};
 ghost use Rattle.moves.specs.Moves.{OfMember, Same, voted, InRange, own_vote, MayBeCertain, on_to};
 
@@ -173,7 +173,7 @@ impl Member {
         ensures is { (m : OfMember) → Stands self memory.old m → MayBeCertain m →
             (Stands result.0 memory.new (certainly (lim self) (silent m)).member)
             × (voted result.1 ≡ (certainly (lim self) (silent m)).out) }
-        ensures only { OnlyIn of-votes (lim self) memory.old memory.new }
+        ensures only { OnlyIn of_votes (lim self) memory.old memory.new }
         ensures same { Same self result.0 }
         ensures ranged { InRange (lim self) result.1 }
     {

@@ -12,7 +12,7 @@ ghost use Rattle.cells.specs.Blocks.{blocks_in};
 ghost use Rattle.cells.specs.Proposals.{Proposals, Proposes};
 ghost use Rattle.tally.specs.Votes.{Votes, Holds, certified_by};
 ghost use Rattle.moves.specs.Parts.{votes_end, proposals_end, blocks_end, part, OnlyIn};
-ghost use Rattle.moves.specs.Parts.{of-votes, of-proposals, of_blocks, PutBlock};
+ghost use Rattle.moves.specs.Parts.{of_votes, of_proposals, of_blocks, PutBlock};
 
 use cells::{ValidProposal, add_block, has_block, keep, proposed_for};
 use limits::Limits;
@@ -43,7 +43,7 @@ pub fn is_taken(memory: &[u64], limits: Limits, vote: Vote) -> bool
     requires long { memory_size (limits_of all limits) ≤ length memory.now }
     requires vote { vote_in_range (limits_of all limits) (vote_of vote) ≡ true }
     ensures is { (vs : Votes) →
-        Holds (limits_of all limits) (part of-votes (limits_of all limits) memory.now) vs →
+        Holds (limits_of all limits) (part of_votes (limits_of all limits) memory.now) vs →
         result ≡ slot_taken (vote_of vote) vs }
 {
     taken(&memory[64..votes_end(limits)], limits, vote)
@@ -54,7 +54,7 @@ pub fn is_heard(memory: &[u64], limits: Limits, vote: Vote) -> bool
     requires long { memory_size (limits_of all limits) ≤ length memory.now }
     requires vote { vote_in_range (limits_of all limits) (vote_of vote) ≡ true }
     ensures is { (vs : Votes) →
-        Holds (limits_of all limits) (part of-votes (limits_of all limits) memory.now) vs →
+        Holds (limits_of all limits) (part of_votes (limits_of all limits) memory.now) vs →
         result ≡ is_vote_in (vote_of vote) vs }
 {
     has_heard(&memory[64..votes_end(limits)], limits, vote)
@@ -65,7 +65,7 @@ pub(crate) fn is_quorum(memory: &[u64], limits: Limits, vote: Vote) -> bool
     requires long { memory_size (limits_of all limits) ≤ length memory.now }
     requires vote { vote_in_range (limits_of all limits) (vote_of vote) ≡ true }
     ensures is { (vs : Votes) →
-        Holds (limits_of all limits) (part of-votes (limits_of all limits) memory.now) vs →
+        Holds (limits_of all limits) (part of_votes (limits_of all limits) memory.now) vs →
         result ≡ has_quorum (limits_of all limits) vote.kind vote.period vote.step (value_of vote.value) vs }
 {
     has_quorum(&memory[64..votes_end(limits)], limits, vote)
@@ -76,11 +76,11 @@ pub(crate) fn hear_vote(memory: &mut [u64], limits: Limits, vote: Vote)
     requires long { memory_size (limits_of all limits) ≤ length memory.old }
     requires vote { vote_in_range (limits_of all limits) (vote_of vote) ≡ true }
     ensures is { (vs : Votes) →
-        Holds (limits_of all limits) (part of-votes (limits_of all limits) memory.old) vs →
+        Holds (limits_of all limits) (part of_votes (limits_of all limits) memory.old) vs →
         slot_taken (vote_of vote) vs ≡ false →
-        Holds (limits_of all limits) (part of-votes (limits_of all limits) memory.new)
+        Holds (limits_of all limits) (part of_votes (limits_of all limits) memory.new)
         (vote_of vote ∷ vs) }
-    ensures only { OnlyIn of-votes (limits_of all limits) memory.old memory.new }
+    ensures only { OnlyIn of_votes (limits_of all limits) memory.old memory.new }
 {
     let end = votes_end(limits);
     hear(&mut memory[64..end], limits, vote);
@@ -91,7 +91,7 @@ pub(crate) fn chosen_of(memory: &[u64], limits: Limits, period: u64, count: u64)
     requires long { memory_size (limits_of all limits) ≤ length memory.now }
     requires blocks { count ≤ limits.blocks }
     ensures is { (vs : Votes) →
-        Holds (limits_of all limits) (part of-votes (limits_of all limits) memory.now) vs →
+        Holds (limits_of all limits) (part of_votes (limits_of all limits) memory.now) vs →
         listed result ≡ chosen_in (limits_of all limits) period vs vs
         (blocks_in (part of_blocks (limits_of all limits) memory.now) count) }
 {
@@ -104,7 +104,7 @@ pub(crate) fn chosen_of(memory: &[u64], limits: Limits, period: u64, count: u64)
 pub(crate) fn is_certified(memory: &[u64], limits: Limits, value: Value) -> bool
     requires long { memory_size (limits_of all limits) ≤ length memory.now }
     ensures is { (vs : Votes) →
-        Holds (limits_of all limits) (part of-votes (limits_of all limits) memory.now) vs →
+        Holds (limits_of all limits) (part of_votes (limits_of all limits) memory.now) vs →
         result ≡ certified_by (limits_of all limits) (value_of value) limits.periods vs }
 {
     certified(&memory[64..votes_end(limits)], limits, value)
@@ -116,7 +116,7 @@ pub(crate) fn proposed_of(memory: &[u64], limits: Limits, period: u64) -> Option
     requires some { 1 ≤ period }
     requires few { period ≤ limits.periods }
     ensures is { (os : Proposals) →
-        Proposes (limits_of all limits) (part of-proposals (limits_of all limits) memory.now) os →
+        Proposes (limits_of all limits) (part of_proposals (limits_of all limits) memory.now) os →
         listed result ≡ proposed period os }
 {
     proposed_for(
@@ -132,10 +132,10 @@ pub(crate) fn keep_proposal(memory: &mut [u64], limits: Limits, proposal: Propos
     requires some { 1 ≤ proposal.period }
     requires few { proposal.period ≤ limits.periods }
     ensures is { (os : Proposals) →
-        Proposes (limits_of all limits) (part of-proposals (limits_of all limits) memory.old) os →
-        Proposes (limits_of all limits) (part of-proposals (limits_of all limits) memory.new)
+        Proposes (limits_of all limits) (part of_proposals (limits_of all limits) memory.old) os →
+        Proposes (limits_of all limits) (part of_proposals (limits_of all limits) memory.new)
         (keep_best (proposal_of proposal) os) }
-    ensures only { OnlyIn of-proposals (limits_of all limits) memory.old memory.new }
+    ensures only { OnlyIn of_proposals (limits_of all limits) memory.old memory.new }
 {
     let start = votes_end(limits);
     let end = proposals_end(limits);

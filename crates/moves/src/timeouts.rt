@@ -6,7 +6,7 @@ ghost use Rattle.protocol.specs.Programs.{memory_size};
 ghost use Rattle.values.specs.Values.{value_of};
 ghost use Rattle.wire.specs.Meaning.{kind_number, vote_of};
 ghost use Rattle.cells.specs.Cells.{listed};
-ghost use Rattle.moves.specs.Parts.{OnlyIn, of-votes};
+ghost use Rattle.moves.specs.Parts.{OnlyIn, of_votes};
 ghost use Rattle.moves.specs.Stands.{lim, Stands};
 ghost use Rattle.moves.specs.Moves.{OfMember, Same, own_vote, GoesOn, SaidSoft, SaidNext};
 
@@ -25,7 +25,7 @@ impl Member {
             Stands self memory.new (with_vote (own m (kind_number kind) step (value_of value)) m) }
         ensures said { (m : OfMember) → Stands self memory.old m →
             vote_of result ≡ own m (kind_number kind) step (value_of value) }
-        ensures only { OnlyIn of-votes (lim self) memory.old memory.new }
+        ensures only { OnlyIn of_votes (lim self) memory.old memory.new }
         ensures ranged { vote_in_range (lim self) (vote_of result) ≡ true }
     {
         let vote = self.own(kind, step, value);
@@ -53,7 +53,7 @@ impl Member {
         ensures is { (m : OfMember) → Stands self memory.old m →
             ((x : ℕ) → slot_taken (own m soft 0 x) m.votes ≡ false) →
             SaidSoft result.0 memory.new result.1 m }
-        ensures only { OnlyIn of-votes (lim self) memory.old memory.new }
+        ensures only { OnlyIn of_votes (lim self) memory.old memory.new }
         ensures same { Same self result.0 }
     {
         let value = self.soft_value(memory);
@@ -94,7 +94,7 @@ impl Member {
         ensures is { (m : OfMember) → Stands self memory.old m →
             slot_taken (next_vote m (suc m.step) (chosen (lim self) m)) m.votes ≡ false →
             SaidNext (lim self) result.0 memory.new result.1 m }
-        ensures only { OnlyIn of-votes (lim self) memory.old memory.new }
+        ensures only { OnlyIn of_votes (lim self) memory.old memory.new }
         ensures same { Same self result.0 }
         ensures ranged { vote_in_range (lim self) (vote_of result.1) ≡ true }
     {

@@ -16,7 +16,7 @@ use Rattle.tally.specs.Votes.{heard_at, entry_of, is_only, Holds}
 use Rattle.tally.proofs.Heard.{heard_voted, not_heard}
 use Rattle.tally.proofs.Index.{slot_good}
 use Rattle.member.specs.Calls.{taking_all, Kept, SaidIt}
-use Rattle.moves.specs.Parts.{part, of-votes}
+use Rattle.moves.specs.Parts.{part, of_votes}
 use Rattle.network.specs.Memory.{agreed_in, heard_in, may_come, may_happen, all_may_come, Certifies, Agreement}
 use Rattle.network.specs.Running.{Held, Running}
 use Rattle.network.specs.Seats.{memory_of}
@@ -40,15 +40,15 @@ held-agreed l i mem m h =
     h.kept.carries.header.agreed ∙ h.kept.carries.stands.agreed ∙ ap (λ (x : Member). x.agreed) h.is
 
 -- votes that a part of memory holds, looked up by their entry
-looked_up : (l : Limits) (mem : List ℕ) (vs : List Vote) (v : Vote) → Holds l (part of-votes l mem) vs →
+looked_up : (l : Limits) (mem : List ℕ) (vs : List Vote) (v : Vote) → Holds l (part of_votes l mem) vs →
     heard_in l mem v ≡ is_vote_in v vs
 looked_up l mem vs v h =
     elim (cases_Bool (vote_in_range l v)) [
-      | inl good ↦ ap (λ (b : Bool). b && is_only v.value (heard_at (part of-votes l mem) (entry_of l v))) good
+      | inl good ↦ ap (λ (b : Bool). b && is_only v.value (heard_at (part of_votes l mem) (entry_of l v))) good
           ∙ ap (is_only v.value)
           (h.entries v.kind v.period v.step v.from (slot_good l v good) (ranged l v good).member)
           ∙ heard_voted v vs h.different
-      | inr bad ↦ ap (λ (b : Bool). b && is_only v.value (heard_at (part of-votes l mem) (entry_of l v))) bad
+      | inr bad ↦ ap (λ (b : Bool). b && is_only v.value (heard_at (part of_votes l mem) (entry_of l v))) bad
           ∙ sym (not_heard l v vs h.in_range bad)
     ]
 
@@ -57,7 +57,7 @@ pub held_heard : (l : Limits) (i : ℕ) (mem : List ℕ) (m : Member) (v : Vote)
 held_heard l i mem m v h =
     let carries = h.kept.carries in
     looked_up (taking_all l) mem (member_after (taking_all l) i h.events).votes v
-    (subst (λ (k : Limits). Holds k (part of-votes k mem) (member_after (taking_all l) i h.events).votes)
+    (subst (λ (k : Limits). Holds k (part of_votes k mem) (member_after (taking_all l) i h.events).votes)
     carries.limits
     carries.stands.votes)
     ∙ ap (λ (x : Member). is_vote_in v x.votes) h.is
@@ -68,7 +68,7 @@ pub nobody_said : (l : Limits) (faulty : ℕ → Bool) (mem : List ℕ) (v : Vot
     may_come l faulty mem v ≡ false
 nobody_said l faulty mem v good high =
     or_from _ _ good (and_left (vote_in_range l v)
-    (is_only v.value (heard_at (part of-votes l (memory_of l faulty v.from mem)) (entry_of l v)))
+    (is_only v.value (heard_at (part of_votes l (memory_of l faulty v.from mem)) (entry_of l v)))
     (elim (cases_Bool (vote_in_range l v)) [ inl h ↦ absurd (not-le_of_lt (ranged l v h).member high) | inr h ↦ h ]))
 
 -- what the call on its memory says of a vote

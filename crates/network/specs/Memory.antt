@@ -6,7 +6,7 @@ use Rattle.protocol.specs.Member.{Event, got_vote, got_proposal, got_block, time
 use Rattle.protocol.specs.Network.{all_for, all_different}
 use Rattle.tally.specs.Votes.{heard_at, entry_of, is_only}
 use Rattle.member.specs.Header.{option_at}
-use Rattle.moves.specs.Parts.{part, of-votes}
+use Rattle.moves.specs.Parts.{part, of_votes}
 use Rattle.network.specs.Seats.{memory_of}
 
 -- what the member in this memory agreed on, none or one
@@ -15,7 +15,7 @@ agreed_in mem = option_at mem 16
 
 -- the member in this memory heard this very vote
 abbrev pub heard_in : Limits → List ℕ → Vote → Bool
-heard_in l mem v = vote_in_range l v && is_only v.value (heard_at (part of-votes l mem) (entry_of l v))
+heard_in l mem v = vote_in_range l v && is_only v.value (heard_at (part of_votes l mem) (entry_of l v))
 
 -- A vote can come if it is in a faulty member's name, or an honest one said it: then it stands among what that member
 -- itself heard.

@@ -2,7 +2,7 @@ use Rattle.std.proofs.Common.{ℕ, List, refl, ◌∙◌, arith}
 use Rattle.protocol.specs.Vote.{Limits}
 use Rattle.protocol.specs.Promises.{all}
 use Rattle.limits.specs.Limits.{limits_of}
-use Rattle.moves.specs.Parts.{of-rest}
+use Rattle.moves.specs.Parts.{of_rest}
 use Rattle.member.proofs.Answering.{only-header}
 use Rattle.member.proofs.Fresh.{no_votes, no_proposals, no_blocks}
 use Rattle.member.proofs.opening.write_new.Goals as goal
@@ -32,5 +32,5 @@ returns c =
           blocks = no_blocks l mem mid new c.blank.ensures.is c.mark.ensures.only;
         };
       };
-      rest = only-header l mid new c.mark.ensures.only (omega arith) of-rest refl ∙ c.blank.ensures.is.rest;
+      rest = only-header l mid new c.mark.ensures.only (omega arith) of_rest refl ∙ c.blank.ensures.is.rest;
     }

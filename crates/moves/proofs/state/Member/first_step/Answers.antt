@@ -3,7 +3,7 @@ use Rattle.protocol.specs.Vote.{soft, Vote}
 use Rattle.protocol.specs.Member.{Outcome, own, silent, at_step, with_vote, soft_value, say_soft}
 use Rattle.protocol.proofs.Ranges.{range_test}
 use Rattle.values.specs.Values.{value_of}
-use Rattle.moves.specs.Parts.{of-votes}
+use Rattle.moves.specs.Parts.{of_votes}
 use Rattle.moves.specs.Stands.{lim, Stands}
 use Rattle.moves.specs.declared.state.Member as code
 use Rattle.moves.proofs.Certainly.{first_in_range}
@@ -56,6 +56,6 @@ returns c =
             out = ap (λ (w : Vote). w ∷ []) (c.say-vote.ensures.said (at_step 1 m) there)
                 ∙ sym (ap (λ (d : Outcome). d.out) said);
           };
-      only = same_only x y c.at_step-member.ensures.same of-votes mem new c.say-vote.ensures.only;
+      only = same_only x y c.at_step-member.ensures.same of_votes mem new c.say-vote.ensures.only;
       same = c.at_step-member.ensures.same;
     }

@@ -4,7 +4,7 @@ use Rattle.protocol.specs.Member.{own, at_step, with_vote, chosen, next_vote}
 use Rattle.protocol.proofs.Ranges.{range_test}
 use Rattle.values.specs.Values.{value_of}
 use Rattle.wire.specs.Meaning.{kind_number}
-use Rattle.moves.specs.Parts.{of-votes}
+use Rattle.moves.specs.Parts.{of_votes}
 use Rattle.moves.specs.Stands.{lim, Stands}
 use Rattle.moves.specs.declared.state.Member as code
 use Rattle.moves.proofs.Saying.{next-in_range}
@@ -45,7 +45,7 @@ returns c =
                 (c.say-vote.ensures.is (at_step (x.step + 1) m) there slot));
             vote = c.say-vote.ensures.said (at_step (x.step + 1) m) there ∙ vote;
           };
-      only = same_only x y c.at_step-member.ensures.same of-votes mem new c.say-vote.ensures.only;
+      only = same_only x y c.at_step-member.ensures.same of_votes mem new c.say-vote.ensures.only;
       same = c.at_step-member.ensures.same;
       ranged = same_ranged x y c.at_step-member.ensures.same _ c.say-vote.ensures.ranged;
     }

@@ -1,7 +1,7 @@
 use Rattle.std.proofs.Common.{ℕ, List, refl, ap, ◌∙◌}
 use Rattle.moves.specs.Events.{Did}
 use Rattle.moves.specs.Moves.{Same}
-use Rattle.moves.specs.Parts.{OnlyIn, of-votes, of_blocks, of-header, of-rest}
+use Rattle.moves.specs.Parts.{OnlyIn, of_votes, of_blocks, of_header, of_rest}
 use Rattle.moves.specs.Stands.{lim}
 use Rattle.moves.specs.declared.state.Member.{Member}
 use Rattle.protocol.specs.Member.{add_block}
@@ -25,7 +25,7 @@ returns c =
     let new : List ℕ = c.certainly-cert.new.memory in
     let v : ℕ = value_of c.args.value in
     let first : OnlyIn of_blocks (lim x) mem mid = c.put_block.ensures.only in
-    let then : OnlyIn of-votes (lim x) mid new = same_only x y₁ s₁ of-votes mid new c.certainly-cert.ensures.only in
+    let then : OnlyIn of_votes (lim x) mid new = same_only x y₁ s₁ of_votes mid new c.certainly-cert.ensures.only in
     record {
       is = (
         c.in_ok-count.ensures.is.1.1,
@@ -39,9 +39,9 @@ returns c =
             record { stands = done.stands; out = c.said.ensures.is ∙ done.out },
       );
       only = record {
-        header = then of-header refl ∙ first of-header refl;
-        rest = then of-rest refl
-            ∙ first of-rest refl;
+        header = then of_header refl ∙ first of_header refl;
+        rest = then of_rest refl
+            ∙ first of_rest refl;
       };
       same = same_twice x y₃ y₄ s₃ c.agree_on_block-agreed.ensures.same;
     }

@@ -1,7 +1,7 @@
 use Rattle.std.proofs.Common.{◌≡◌, ℕ, List, sym, refl, ◌∙◌}
 use Rattle.moves.specs.Events.{Did}
 use Rattle.moves.specs.Moves.{Same}
-use Rattle.moves.specs.Parts.{OnlyIn, of-votes, of-header, of-rest}
+use Rattle.moves.specs.Parts.{OnlyIn, of_votes, of_header, of_rest}
 use Rattle.moves.specs.Stands.{lim}
 use Rattle.moves.specs.declared.state.Member.{Member}
 use Rattle.moves.proofs.Coming.{first_done}
@@ -19,9 +19,9 @@ returns c =
     let mem : List ℕ = c.args.memory.now in
     let mid : List ℕ = c.first_step-soft.new.memory in
     let new : List ℕ = c.certainly-cert.new.memory in
-    let only : OnlyIn of-votes (lim x) mem new =
-    only_twice of-votes (lim x) mem mid new c.first_step-soft.ensures.only
-    (same_only x y₁ s₁ of-votes mid new c.certainly-cert.ensures.only) in
+    let only : OnlyIn of_votes (lim x) mem new =
+    only_twice of_votes (lim x) mem mid new c.first_step-soft.ensures.only
+    (same_only x y₁ s₁ of_votes mid new c.certainly-cert.ensures.only) in
     record {
       is = λ m h ready.
           let step : m.step ≡ 0 = sym h.step ∙ c.requires.first in
@@ -31,6 +31,6 @@ returns c =
           c.certainly-cert.ensures.is c.agree_by_own-own.ensures.is m ready step
           (c.first_step-soft.ensures.is m h (λ v. ready.fresh.soft_slot v step)) in
           record { stands = done.stands; out = c.said.ensures.is ∙ done.out };
-      only = record { header = only of-header refl; rest = only of-rest refl };
+      only = record { header = only of_header refl; rest = only of_rest refl };
       same = same_twice x y₂ y₃ s₂ c.agree_by_own-own.ensures.same;
     }

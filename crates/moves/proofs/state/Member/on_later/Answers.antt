@@ -1,6 +1,6 @@
 use Rattle.std.proofs.Common.{ℕ, ◌-◌, List, refl, arith}
 use Rattle.moves.specs.Moves.{Same}
-use Rattle.moves.specs.Parts.{of-header, of-rest}
+use Rattle.moves.specs.Parts.{of_header, of_rest}
 use Rattle.moves.specs.Stands.{lim}
 use Rattle.moves.specs.declared.state.Member.{Member}
 use Rattle.protocol.specs.Member.{chosen}
@@ -22,6 +22,6 @@ returns c =
           ready
           (omega (arith, h.step, c.requires.some_step))
           (c.later_step.ensures.is m h (next_slot (lim x) m (chosen (lim x) m) ready));
-      only = record { header = only of-header refl; rest = only of-rest refl };
+      only = record { header = only of_header refl; rest = only of_rest refl };
       same = same_twice x y₁ y₂ s₁ c.onward-member.ensures.same;
     }

@@ -1,5 +1,5 @@
 use Rattle.std.proofs.Common.{ℕ, List, refl}
-use Rattle.moves.specs.Parts.{of-header, of-rest}
+use Rattle.moves.specs.Parts.{of_header, of_rest}
 use Rattle.moves.specs.declared.state.Member.{Member}
 use Rattle.protocol.specs.Member.{keep_best, does}
 use Rattle.wire.specs.Meaning.{proposal_of}
@@ -19,6 +19,6 @@ returns c =
             (c.keep_proposal.ensures.is m.proposals h.proposals) only;
         out = refl;
       };
-      only = record { header = only of-header refl; rest = only of-rest refl };
+      only = record { header = only of_header refl; rest = only of_rest refl };
       same = record { limits = refl; me = refl };
     }

@@ -3,7 +3,7 @@ use Rattle.protocol.specs.Vote.{Vote}
 use Rattle.wire.specs.Meaning.{vote_of}
 use Rattle.moves.specs.Events.{Did}
 use Rattle.moves.specs.Moves.{Same}
-use Rattle.moves.specs.Parts.{OnlyIn, of-votes, of-header, of-rest}
+use Rattle.moves.specs.Parts.{OnlyIn, of_votes, of_header, of_rest}
 use Rattle.moves.specs.Stands.{lim}
 use Rattle.moves.specs.declared.state.Member.{Member}
 use Rattle.moves.proofs.Coming.{vote_done}
@@ -24,9 +24,9 @@ returns c =
     let mid : List ℕ = c.hear_vote.new.memory in
     let new : List ℕ = c.certainly-cert.new.memory in
     let v : Vote = vote_of c.args.vote in
-    let only : OnlyIn of-votes (lim x) mem new =
-    only_twice of-votes (lim x) mem mid new c.hear_vote.ensures.only
-    (same_only x y₁ s₁ of-votes mid new c.certainly-cert.ensures.only) in
+    let only : OnlyIn of_votes (lim x) mem new =
+    only_twice of_votes (lim x) mem mid new c.hear_vote.ensures.only
+    (same_only x y₁ s₁ of_votes mid new c.certainly-cert.ensures.only) in
     record {
       is = λ m h ready free other.
           let done : Did y₄ new _ _ =
@@ -36,6 +36,6 @@ returns c =
           c.agree_by-agreed.ensures.is m ready other
           (heard x mem mid m h v (c.hear_vote.ensures.is m.votes h.votes free) c.hear_vote.ensures.only) in
           record { stands = done.stands; out = c.said.ensures.is ∙ done.out };
-      only = record { header = only of-header refl; rest = only of-rest refl };
+      only = record { header = only of_header refl; rest = only of_rest refl };
       same = same_twice x y₃ y₄ s₃ c.agree_by-agreed.ensures.same;
     }

@@ -1,6 +1,6 @@
 use Rattle.std.proofs.Common.{ℕ, List, sym, refl, subst}
 use Rattle.protocol.specs.Vote.{Limits}
-use Rattle.moves.specs.Parts.{of-votes, of-proposals}
+use Rattle.moves.specs.Parts.{of_votes, of_proposals}
 use Rattle.moves.specs.Stands.{lim}
 use Rattle.tally.specs.Votes.{Holds}
 use Rattle.cells.specs.Proposals.{Proposes}
@@ -18,8 +18,8 @@ returns c =
         free = h.free;
         certain = h.certain;
         agreed = h.agreed;
-        votes = subst (λ (ys : List ℕ). Holds l ys m.votes) (sym (only of-votes refl)) h.votes;
-        proposals = subst (λ (ys : List ℕ). Proposes l ys m.proposals) (sym (only of-proposals refl)) h.proposals;
+        votes = subst (λ (ys : List ℕ). Holds l ys m.votes) (sym (only of_votes refl)) h.votes;
+        proposals = subst (λ (ys : List ℕ). Proposes l ys m.proposals) (sym (only of_proposals refl)) h.proposals;
         blocks = here;
       };
       same = record { limits = refl; me = refl };
