@@ -79,7 +79,7 @@ fn out_of_range(rt: HostRuntime) -> Result<(), Fail> {
     no_vote(&rt, vote(Kind::Next, 1, 4, 5, 1))?;
     // a step above the limit, with none
     no_vote(&rt, vote(Kind::NextNone, 1, 4, 0, 1))?;
-    // a next_none vote with a value
+    // a next-none vote with a value
     no_vote(&rt, vote(Kind::NextNone, 1, 2, 5, 1))
 }
 

@@ -24,17 +24,17 @@ overflow_add-end c =
       c.loop-member.memory.small,
       room_left (limits_of all c.args.limits) (has c.args.faulty.bits) c.loop-member.member
           (vec_len c.loop-member.memory) (vec_len c.args.memory.now) _ _ c.loop-member.invariant.0
-          c.memory_size.ensures.is
+          c.memory-size.ensures.is
           (sym c.has.ensures.is ∙ c.if-not-has.true) c.loop-member-test.true c.requires.room
           c.loop-member.invariant.1.1,
     )
 
 pub open_in-requires : goal.open_in-requires
 open_in-requires c = record {
-  size = ap (λ (n : ℕ). c.loop-member.start + n) c.memory_size.ensures.is;
+  size = ap (λ (n : ℕ). c.loop-member.start + n) c.memory-size.ensures.is;
   within = room_left (limits_of all c.args.limits) (has c.args.faulty.bits) c.loop-member.member
       (vec_len c.loop-member.memory) (vec_len c.args.memory.now) _ _ c.loop-member.invariant.0
-      c.memory_size.ensures.is
+      c.memory-size.ensures.is
       (sym c.has.ensures.is ∙ c.if-not-has.true) c.loop-member-test.true c.requires.room
       c.loop-member.invariant.1.1;
   me = c.loop-member-test.true;
@@ -49,12 +49,12 @@ loop-member-preserved c =
     elim c.if-not-has.branch [
       | then-not-has w ↦
           let good = sym c.has.ensures.is ∙ w.if-not-has.true in (
-            w.start-is ∙ ap (λ (k : ℕ). c.loop-member.start + k) c.memory_size.ensures.is
+            w.start-is ∙ ap (λ (k : ℕ). c.loop-member.start + k) c.memory-size.ensures.is
                 ∙ ap (λ (k : ℕ). k + memory_size l) c.loop-member.invariant.0 ∙ start_more l faulty n good,
             (
               rw w.memory-is (new_more l faulty n mem c.loop-member.invariant.1.0
                   (vec_items w.open_in.new.memory) _ _ good c.loop-member.invariant.0
-                  (ap (λ (k : ℕ). c.loop-member.start + k) c.memory_size.ensures.is) w.open_in.ensures.is
+                  (ap (λ (k : ℕ). c.loop-member.start + k) c.memory-size.ensures.is) w.open_in.ensures.is
                   w.open_in.ensures.only),
               rw w.memory-is (w.open_in.ensures.len ∙ c.loop-member.invariant.1.1),
             ),

@@ -28,7 +28,7 @@ pub hear_vote-requires : goal.hear_vote-requires
 hear_vote-requires c =
     record {
       long = c.requires.long;
-      vote = first_said c.args.self cert c.in-Some.value c.own_vote.result c.own_vote.ensures.fields (omega arith)
+      vote = first_said c.args.self cert c.in-Some.value c.own-vote.result c.own-vote.ensures.fields (omega arith)
           (omega (arith, c.args.self.few_periods));
     }
 
@@ -37,11 +37,11 @@ returns c =
     let x : code.Member = c.args.self in
     let mem : List ℕ = c.args.memory.now in
     let new : List ℕ = c.hear_vote.new.memory in
-    let v : Vote = vote_of c.own_vote.result in
+    let v : Vote = vote_of c.own-vote.result in
     let y : ℕ = value_of c.in-Some.value in
     record {
       is = λ m h fresh.
-          let mine : v ≡ own m cert 0 y = c.own_vote.ensures.is mem m h in
+          let mine : v ≡ own m cert 0 y = c.own-vote.ensures.is mem m h in
           let free = subst (λ (w : Vote). slot_taken w m.votes ≡ false) (sym mine)
           (fresh y (sym h.step ∙ c.if-self-ne1.false) (sym h.certain ∙ c.if-self.false)) in
           let said : certainly (lim x) (silent m) ≡ record { member = with_vote v (now_certain m); out = v ∷ [] } =
@@ -57,6 +57,6 @@ returns c =
           );
       only = c.hear_vote.ensures.only;
       same = c.now_certain.ensures.same;
-      ranged = first_said x cert c.in-Some.value c.own_vote.result c.own_vote.ensures.fields (omega arith)
+      ranged = first_said x cert c.in-Some.value c.own-vote.result c.own-vote.ensures.fields (omega arith)
           (omega (arith, x.few_periods));
     }

@@ -12,16 +12,16 @@ returns c =
     let x : Member = c.args.self in
     let mem : List ℕ = c.args.memory.now in
     let new : List ℕ = c.hear_vote.new.memory in
-    let v : Vote = vote_of c.own_vote.result in
+    let v : Vote = vote_of c.own-vote.result in
     record {
       is = λ m h free.
-          let mine = c.own_vote.ensures.is mem m h in
+          let mine = c.own-vote.ensures.is mem m h in
           subst (λ (w : Vote). Stands x new (with_vote w m)) mine
           (heard x mem new m h v
           (c.hear_vote.ensures.is m.votes h.votes
           (subst (λ (w : Vote). slot_taken w m.votes ≡ false) (sym mine) free))
           c.hear_vote.ensures.only);
-      said = λ m h. c.own_vote.ensures.is mem m h;
+      said = λ m h. c.own-vote.ensures.is mem m h;
       only = c.hear_vote.ensures.only;
-      ranged = subst (λ (w : Vote). vote_in_range (lim x) w ≡ true) (sym c.own_vote.ensures.fields) c.requires.vote;
+      ranged = subst (λ (w : Vote). vote_in_range (lim x) w ≡ true) (sym c.own-vote.ensures.fields) c.requires.vote;
     }
