@@ -3,9 +3,10 @@
 
 usage: python3 tools/spell.py        at the top of the repository, once, after the kit's upgrade script
 
-tools/names.txt has a line 'old new' for each name. Names are turned in crates/*/specs, crates/*/proofs, in the clauses
-and ghost items of crates/*/src (nothing else there has a dash between letters), and in docs/ and README.md between
-backticks. Strings stay. Each crate's root file gets the line #![tactic(auto)] above its first item.
+tools/names.txt has a line 'old new' for each name. Names are turned in crates/*/specs, crates/*/proofs, crates/*/src
+(where only clauses, ghost items and comments have them), and in docs/ and README.md between backticks. Strings stay.
+Each crate's root file gets the line #![tactic(auto)] above its first item. Once, since proofs that were mended after it
+cite names that the check makes, and a few of those (c.own-vote, c.memory-size) have an old name's letters.
 """
 
 import os
