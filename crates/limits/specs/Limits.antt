@@ -1,5 +1,5 @@
 -- The limits of the code as the protocol's, and which of them is out of range. Assumes nothing.
-use Rattle.std.specs.Prelude.{◌≡◌, ℕ, Bool, cond, ◌&&◌, Some, None, Ok, Err, Option, Result, nat_le}
+use Rattle.std.specs.Prelude.{◌≡◌, ℕ, Bool, cond, ◌&&◌, List, Some, None, Ok, Err, Option, Result, nat_le, codes}
 use Rattle.protocol.specs.Vote as protocol
 use Rattle.limits.specs.declared.bounds.Limits.{Limits}
 use Rattle.limits.specs.declared.bounds.Limit.{Limit}
@@ -16,6 +16,13 @@ most Members = 64
 most Periods = 32
 most Steps = 8
 most Blocks = 256
+
+-- its name in the line that says the limits
+abbrev pub name_of : Limit → List ℕ
+name_of Members = codes "MEMBERS"
+name_of Periods = codes "PERIODS"
+name_of Steps = codes "STEPS"
+name_of Blocks = codes "BLOCKS"
 
 abbrev pub within : ℕ → ℕ → Bool
 within most n = nat_le 1 n && nat_le n most

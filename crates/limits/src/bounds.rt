@@ -1,7 +1,7 @@
 // The limits with which a network is opened, within their ranges by type.
 ghost use Rattle.std.specs.Prelude.{◌≤◌};
 
-#[derive(Clone, Copy)]
+#[derive(Clone, Copy, PartialEq, Eq, Debug)]
 pub struct Limits {
     pub members: u64,
     pub periods: u64,
@@ -19,7 +19,7 @@ pub struct Limits {
 }
 
 // Which of the limits.
-#[derive(Clone, Copy, PartialEq, Eq, Debug, Drop)]
+#[derive(Clone, Copy, PartialEq, Eq, Debug)]
 pub enum Limit {
     Members,
     Periods,

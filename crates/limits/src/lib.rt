@@ -2,6 +2,7 @@
 #![tactic(auto)]
 
 mod bounds;
+mod ranges;
 mod sizes;
 
 pub use bounds::{Limit, Limits};

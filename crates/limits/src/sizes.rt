@@ -12,18 +12,10 @@ impl Limits {
     pub fn new(members: u64, periods: u64, steps: u64, blocks: u64) -> Result<Limits, Limit>
         ensures is { Made members periods steps blocks result }
     {
-        if members < 1 || members > 64 {
-            return Err(Limit::Members);
-        }
-        if periods < 1 || periods > 32 {
-            return Err(Limit::Periods);
-        }
-        if steps < 1 || steps > 8 {
-            return Err(Limit::Steps);
-        }
-        if blocks < 1 || blocks > 256 {
-            return Err(Limit::Blocks);
-        }
+        Limit::Members.check(members)?;
+        Limit::Periods.check(periods)?;
+        Limit::Steps.check(steps)?;
+        Limit::Blocks.check(blocks)?;
         Ok(Limits {
             members,
             periods,
