@@ -10,7 +10,7 @@ pub(crate) fn vote(kind: Kind, period: u64, step: u64, value: u64, from: u64) ->
         kind: kind.number(),
         period,
         step,
-        value: Value::of(value, 0, 0, 0),
+        value: Value::from([value, 0, 0, 0]),
         from,
     }
 }
@@ -19,12 +19,12 @@ pub(crate) fn proposal(period: u64, value: u64) -> Event {
     Event::Proposal(Proposal {
         period,
         rank: 0,
-        value: Value::of(value, 0, 0, 0),
+        value: Value::from([value, 0, 0, 0]),
     })
 }
 
 pub(crate) fn block(value: u64) -> Event {
-    Event::Block(Value::of(value, 0, 0, 0))
+    Event::Block(Value::from([value, 0, 0, 0]))
 }
 
 // The member answers the event's bytes so.
@@ -75,7 +75,7 @@ pub(crate) fn agrees(
         rt,
         memory,
         event,
-        Answer::Says(Said::Nothing, Some(Value::of(value, 0, 0, 0))),
+        Answer::Says(Said::Nothing, Some(Value::from([value, 0, 0, 0]))),
     )
 }
 
@@ -100,6 +100,6 @@ pub(crate) fn stands(
     let Some(number) = start else {
         return Err(Fail::new("a starting value"));
     };
-    assert!(rt; value == Value::of(number, 0, 0, 0), "the starting value");
+    assert!(rt; value == Value::from([number, 0, 0, 0]), "the starting value");
     Ok(())
 }

@@ -180,6 +180,6 @@ fn agree(rt: HostRuntime) -> Result<(), Fail> {
     let Some(value) = network.agreed() else {
         return Err(Fail::new("not agreed"));
     };
-    assert!(rt; value == Value::of(5, 0, 0, 0));
+    assert!(rt; value == Value::from([5, 0, 0, 0]));
     Ok(())
 }

@@ -20,7 +20,7 @@ fn one_agrees(rt: HostRuntime) -> Result<(), Fail> {
         &rt,
         &mut memory,
         Event::Timeout,
-        Answer::Says(said, Some(Value::of(5, 0, 0, 0))),
+        Answer::Says(said, Some(Value::from([5, 0, 0, 0]))),
     )?;
     answers(
         &rt,
@@ -49,7 +49,7 @@ fn one_waits(rt: HostRuntime) -> Result<(), Fail> {
         &rt,
         &mut memory,
         block(5),
-        Answer::Says(said, Some(Value::of(5, 0, 0, 0))),
+        Answer::Says(said, Some(Value::from([5, 0, 0, 0]))),
     )
 }
 

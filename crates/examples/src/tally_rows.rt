@@ -15,7 +15,7 @@ use wire::{Kind, Vote};
 
 // Two values that differ in the last of their four numbers.
 fn value(last: u64) -> Value {
-    Value::of(5, 0, 0, last)
+    Value::from([5, 0, 0, last])
 }
 
 fn soft(limits: Limits, last: u64, from: u64) -> Vote

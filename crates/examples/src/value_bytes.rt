@@ -24,20 +24,20 @@ fn value_bytes(rt: HostRuntime) {
     );
     check_value(
         &rt,
-        Value::of(1, 0, 0, 0),
+        Value::from([1, 0, 0, 0]),
         b"0100000000000000000000000000000000000000000000000000000000000000",
     );
     check_value(
         &rt,
-        Value::of(u64::MAX, 0, 0, 0),
+        Value::from([u64::MAX, 0, 0, 0]),
         b"ffffffffffffffff000000000000000000000000000000000000000000000000",
     );
     check_value(
         &rt,
-        Value::of(0, 1, 0, 0),
+        Value::from([0, 1, 0, 0]),
         b"0000000000000000010000000000000000000000000000000000000000000000",
     );
-    let all = Value::of(u64::MAX, u64::MAX, u64::MAX, u64::MAX);
+    let all = Value::from([u64::MAX, u64::MAX, u64::MAX, u64::MAX]);
     check_value(
         &rt,
         all,

@@ -14,7 +14,7 @@ fn first_vote(kind: Kind) -> Vote {
         kind: kind.number(),
         period: 1,
         step: 0,
-        value: Value::of(5, 0, 0, 0),
+        value: Value::from([5, 0, 0, 0]),
         from: 0,
     }
 }
@@ -41,7 +41,7 @@ fn check_event(rt: &impl Abort, event: Event, digits: &[u8]) -> Result<(), Fail>
 
 #[test]
 fn vote_bytes(rt: HostRuntime) -> Result<(), Fail> {
-    let value = Value::of(1, 2, 3, 4);
+    let value = Value::from([1, 2, 3, 4]);
     let vote = Vote {
         kind: Kind::Next.number(),
         period: 258,
@@ -84,7 +84,7 @@ fn proposal_bytes(rt: HostRuntime) -> Result<(), Fail> {
     let proposal = Proposal {
         period: 3,
         rank: 7,
-        value: Value::of(5, 0, 0, 0),
+        value: Value::from([5, 0, 0, 0]),
     };
     check_event(
         &rt,
@@ -97,7 +97,7 @@ fn proposal_bytes(rt: HostRuntime) -> Result<(), Fail> {
 
 #[test]
 fn block_bytes(rt: HostRuntime) -> Result<(), Fail> {
-    let value = Value::of(0, 1, 0, 0);
+    let value = Value::from([0, 1, 0, 0]);
     check_event(
         &rt,
         Event::Block(value),
@@ -108,7 +108,7 @@ fn block_bytes(rt: HostRuntime) -> Result<(), Fail> {
         Event::Block(Value::zero()),
         b"020000000000000000000000000000000000000000000000000000000000000000",
     )?;
-    let most = Value::of(u64::MAX, u64::MAX, u64::MAX, u64::MAX);
+    let most = Value::from([u64::MAX, u64::MAX, u64::MAX, u64::MAX]);
     check_event(
         &rt,
         Event::Block(most),
@@ -222,7 +222,7 @@ fn one_vote_bytes(rt: HostRuntime) -> Result<(), Fail> {
 fn agreed_bytes(rt: HostRuntime) -> Result<(), Fail> {
     check_answer(
         &rt,
-        Answer::Says(Said::Nothing, Some(Value::of(5, 0, 0, 0))),
+        Answer::Says(Said::Nothing, Some(Value::from([5, 0, 0, 0]))),
         b"010000000000000000010500000000000000000000000000000000000000000000000000000000000000",
     )
 }
@@ -232,7 +232,7 @@ fn two_votes_bytes(rt: HostRuntime) -> Result<(), Fail> {
     let said = Said::Two(first_vote(Kind::Soft), first_vote(Kind::Cert));
     check_answer(
         &rt,
-        Answer::Says(said, Some(Value::of(5, 0, 0, 0))),
+        Answer::Says(said, Some(Value::from([5, 0, 0, 0]))),
         b"01\
           0200000000000000\
           000000000000000001000000000000000000000000000000\

@@ -1,10 +1,10 @@
 -- Words of eight bytes: the number that each writes, as the standard library has it, and what they write together.
 -- Assumes nothing.
 use Rattle.std.proofs.Common.{◌≡◌, ℕ, zero, suc, ◌+◌, ◌*◌, ◌/◌, ◌%◌, ◌^◌, List, [], ◌∷◌, map, length, get_or, take}
-use Rattle.std.proofs.Common.{drop, sym, refl, ap, ◌∙◌, arith, length-drop, length-take}
+use Rattle.std.proofs.Common.{drop, sym, refl, ap, ◌∙◌, ◌<◌, arith, length-drop, length-take}
 use native.Mathlib.Nat.{div-div-eq-div-mul}
 use Rattle.std.specs.Simd.{first_chunks}
-use Rattle.std.proofs.lemmas.List.{take-append-drop}
+use Rattle.std.proofs.lemmas.List.{take-append-drop, ext_get_or, get_or-map, length-map}
 use Rattle.values.specs.Digits.{number_in, digits, number_of, le_number, le_bytes}
 use Rattle.values.proofs.Digits.{number_append}
 use Rattle.values.proofs.Places.{places, places_all}
@@ -42,3 +42,19 @@ words_number (suc k) bs long =
     ∙ ap (λ n. le_number (take 8 bs) + 256 ^ n * le_number (drop 8 bs)) (sym word)
     ∙ sym (number_append 256 (take 8 bs) (drop 8 bs))
     ∙ ap le_number (take-append-drop 8 bs)
+
+pub length_words : (k : ℕ) (bs : List ℕ) → length (first_chunks 8 k bs) ≡ k
+length_words zero bs = refl
+length_words (suc k) bs = ap suc (length_words k (drop 8 bs))
+
+-- each word has eight bytes
+pub word_long : (k i : ℕ) (bs : List ℕ) → length bs ≡ 8 * k → i < k → length (get_or (first_chunks 8 k bs) i []) ≡ 8
+word_long zero i bs long low = absurd (omega arith)
+word_long (suc k) zero bs long low = length-take 8 bs ∙ omega arith
+word_long (suc k) (suc i) bs long low = word_long k i (drop 8 bs) (length-drop 8 bs ∙ omega arith) (omega arith)
+
+-- a list by its places
+pub mapped : {A B : Type 0} (f : A → B) (xs : List A) (ys : List B) (n : ℕ) (d : A) (e : B) → length xs ≡ n → length ys ≡ n →
+    ((i : ℕ) → i < n → get_or ys i e ≡ f (get_or xs i d)) → ys ≡ map f xs
+mapped f xs ys n d e long long' at =
+    ext_get_or e ys (map f xs) (long' ∙ sym (length-map xs f ∙ long)) (λ i low. at i (omega (arith, low, long')) ∙ sym (get_or-map f xs i d e (omega (arith, low, long, long'))))

@@ -1,4 +1,4 @@
-use Rattle.std.proofs.Common.{◌≡◌, ℕ, ◌<◌, get_or, sym, refl, ◌∙◌}
+use Rattle.std.proofs.Common.{◌≡◌, ℕ, ◌<◌, get_or, sym, ◌∙◌, rules}
 use Rattle.values.specs.Digits.{le_number, digits}
 use Rattle.values.proofs.Digits.{digits_number}
 use Rattle.values.proofs.Places.{under_by_places}
@@ -8,7 +8,8 @@ use Rattle.values.proofs.bytes.read_number.Goals as goal
 pub returns : goal.returns
 returns c =
     let bytes = c.args.part.now in
-    let is : c.from_le_bytes.result ≡ le_number bytes = word_number _ _ bytes c.from_le_bytes.ensures refl c.requires in
+    let same : c.unwrap.result ≡ bytes = search rules in
+    let is : c.from_le_bytes.result ≡ le_number bytes = word_number _ _ bytes c.from_le_bytes.ensures same c.requires in
     let low : (i : ℕ) → get_or bytes i 0 < 256 = λ i. (c.type_inv.part i).fits in
     record {
       is = is;
