@@ -18,6 +18,10 @@ values_cond : (b : Bool) (o : Proposal) (os : List Proposal) →
 values_cond true o os = refl
 values_cond false o os = refl
 
+pub values_some : (b : Bool) (o : Proposal) → values (cond b [] (o ∷ [])) ≡ cond b [] (o.value ∷ [])
+values_some true o = refl
+values_some false o = refl
+
 -- what is proposed is the value of the best
 pub proposed_best : (p : ℕ) (os : List Proposal) → values (best_for p os) ≡ proposed p os
 unfolding best_for proposed

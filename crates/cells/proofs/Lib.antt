@@ -2,3 +2,4 @@ pub mod Written
 pub mod Here
 pub mod InRange
 pub mod Best
+pub mod Chunks

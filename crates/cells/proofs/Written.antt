@@ -1,12 +1,14 @@
--- What a write of a few numbers side by side leaves. Assumes nothing.
-use Rattle.std.proofs.Common.{◌≡◌, ℕ, ◌+◌, ◌-◌, ◌<◌, ◌≤◌, List, [], ◌∷◌, length, get_or, take, drop, set, sym, ap, ◌∙◌}
-use Rattle.std.proofs.Common.{inl, inr, arith}
+-- What a write of a few numbers side by side leaves, and an optional value. Assumes nothing.
+use Rattle.std.proofs.Common.{refl, ◌≡◌, ℕ, ◌+◌, ◌-◌, ◌<◌, ◌≤◌, List, [], ◌∷◌, length, get_or, take, drop, set, sym, ap, ◌∙◌}
+use Rattle.std.proofs.Common.{inl, inr, Bool, true, false, cond, not, arith}
+use Rattle.std.specs.Bool.{then_some}
 use borrow.Rule.Slice.PartMut.{put_mid}
 use Rattle.std.proofs.lemmas.List.{get_or_append_left, get_or-append_right, get_or-drop, get_or-take, get_or-set_other}
 use Rattle.std.proofs.lemmas.List.{length-take-le}
 use Rattle.values.specs.Digits.{number_of}
 use Rattle.values.proofs.Limbs.{four_by_places}
-use Rattle.cells.specs.Cells.{value_at, Only}
+use Rattle.values.specs.declared.value.Value.{Value}
+use Rattle.cells.specs.Cells.{value_at, listed, Only}
 
 -- k numbers were written at place a
 module _ (a k : ℕ) (xs ys : List ℕ) (long : length ys ≡ k) (within : a + k ≤ length xs) where
@@ -57,3 +59,8 @@ only_both a b xs ys zs first then i out = then i out ∙ first i out
 pub only_set : (a v : ℕ) (xs : List ℕ) → Only a (a + 1) xs (set xs a v)
 only_set a v xs i (inl below) = get_or-set_other xs a i v 0 (λ e. absurd (omega (arith, e)))
 only_set a v xs i (inr above) = get_or-set_other xs a i v 0 (λ e. absurd (omega (arith, e)))
+
+-- an optional value of the code, none where a test says so
+pub listed_some : (b : Bool) (v : Value) → listed (then_some (not b) v) ≡ cond b [] (number_of v.limbs ∷ [])
+listed_some true v = refl
+listed_some false v = refl

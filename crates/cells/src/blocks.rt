@@ -1,11 +1,12 @@
 // The values whose blocks are here.
+// Kept so: how many there are stands in the member's header, apart from the blocks: lent memory is laid out so.
 ghost use Rattle.std.specs.Prelude.{◌≡◌, ◌+◌, ◌*◌, ◌≤◌, true, length};
 ghost use Rattle.values.specs.Digits.{number_of};
 ghost use Rattle.protocol.specs.Member.{is_in};
 ghost use Rattle.cells.specs.Cells.{Only};
 ghost use Rattle.cells.specs.Blocks.{blocks_in, Added};
 
-use super::cells::{put_value, value_at};
+use super::cells::put_value;
 use values::Value;
 
 // Is the block of this value among the first `count`?
@@ -13,12 +14,8 @@ pub fn has_block(blocks: &[u64], count: u64, value: Value) -> bool
     requires within { 4 * count ≤ length blocks.now }
     ensures is { result ≡ is_in (number_of value.limbs) (blocks_in blocks.now count) }
 {
-    for n in 0..count as usize {
-        if value_at(blocks, 4 * n) == value {
-            return true;
-        }
-    }
-    false
+    let (blocks, _) = blocks.as_chunks::<4>();
+    blocks[..count as usize].contains(&value.limbs())
 }
 
 // Adds the block of this value, unless it is here; the number of blocks then. None, and nothing changes, if it is not

@@ -25,7 +25,5 @@ pub fn put_value(part: &mut [u64], at: usize, value: Value)
 pub fn clear(part: &mut [u64])
     ensures is { (i : ℕ) → slice_index part.new i ≡ 0 }
 {
-    for number in part.iter_mut() {
-        *number = 0;
-    }
+    part.fill(0);
 }

@@ -1,4 +1,5 @@
 // The best proposal of each period, and which proposals are in range.
+// Kept so: a seat's first number says whether a proposal is there: lent memory is laid out so.
 ghost use Rattle.std.specs.Prelude.{◌≡◌, ◌+◌, ◌≤◌, true, false, length, MatchOption};
 ghost use Rattle.limits.specs.Limits.{limits_of};
 ghost use Rattle.protocol.specs.Promises.{all};
@@ -7,7 +8,7 @@ ghost use Rattle.wire.specs.Meaning.{proposal_of};
 ghost use Rattle.cells.specs.Cells.{listed, Only};
 ghost use Rattle.cells.specs.Proposals.{proposals_size, seat, Proposals, Proposes, valid_proposal, proposal_limits};
 
-use super::cells::{put_value, value_at};
+use super::cells::put_value;
 use super::valid::ValidProposal;
 use limits::Limits;
 use values::Value;
@@ -20,10 +21,11 @@ impl ValidProposal {
             (λ o. (o.limits ≡ limits) × ((o.proposal ≡ proposal)
             × (in_range (limits_of all limits) (got_proposal (proposal_of proposal)) ≡ true))) }
     {
-        if proposal.period < 1 || proposal.period > limits.periods {
-            return None;
+        if (1..=limits.periods).contains(&proposal.period) {
+            Some(ValidProposal { limits, proposal })
+        } else {
+            None
         }
-        Some(ValidProposal { limits, proposal })
     }
 }
 
@@ -35,11 +37,9 @@ pub fn proposed_for(proposals: &[u64], limits: Limits, period: u64) -> Option<Va
     ensures is { (os : Proposals) → Proposes (limits_of all limits) proposals.now os →
         listed result ≡ proposed period os }
 {
-    let start = 8 * (period - 1) as usize;
-    if proposals[start] == 0 {
-        return None;
-    }
-    Some(value_at(proposals, start + 2))
+    let (seats, _) = proposals.as_chunks::<8>();
+    let [here, _, a, b, c, d, _, _] = seats[(period - 1) as usize];
+    (here != 0).then_some(Value::of(a, b, c, d))
 }
 
 // Keeps a proposal if there is none for its period, or one of a greater rank.

@@ -5,8 +5,8 @@ use Rattle.cells.proofs.proposals.keep.Goals as goal
 use Rattle.cells.proofs.proposals.keep.Goals.{then-proposals-start-eq0-via-then-proposals-start-eq0}
 use Rattle.cells.proofs.proposals.keep.Goals.{then-proposals-start-eq0-via-else-proposals-start-eq0+then-proposal-proposals}
 
-pub returns-then-proposals-start-eq0 : goal.returns-then-proposals-start-eq0
-returns-then-proposals-start-eq0 c =
+pub returns-then-proposals-start-eq0-clause-is : goal.returns-then-proposals-start-eq0-clause-is
+returns-then-proposals-start-eq0-clause-is c =
     let l = proposal_limits c.args.proposal in
     let o = valid_proposal c.args.proposal in
     let part = c.args.proposals.now in
@@ -28,20 +28,14 @@ returns-then-proposals-start-eq0 c =
       | then-proposals-start-eq0-via-else-proposals-start-eq0+then-proposal-proposals w ↦
           inr w.if-proposal-proposals.true
     ] in
-    record {
-      is = λ os h.
-          proposes_more l part now o os h c.args.proposal.some_period c.args.proposal.few_periods
-          (is ∙ sym (better_new part o why)) only;
-      only = only;
-    }
+    λ os h.
+    proposes_more l part now o os h c.args.proposal.some_period c.args.proposal.few_periods
+    (is ∙ sym (better_new part o why)) only
 
-pub returns-else-proposal-proposals : goal.returns-else-proposal-proposals
-returns-else-proposal-proposals c =
+pub returns-else-proposal-proposals-clause-is : goal.returns-else-proposal-proposals-clause-is
+returns-else-proposal-proposals-clause-is c =
     let l = proposal_limits c.args.proposal in
     let o = valid_proposal c.args.proposal in
     let part = c.args.proposals.now in
-    record {
-      is = λ os h. proposes_more l part part o os h c.args.proposal.some_period c.args.proposal.few_periods
-          (better_old part o c.if-proposals-start-eq0.false c.if-proposal-proposals.false) (λ i _. refl);
-      only = λ i _. refl;
-    }
+    λ os h. proposes_more l part part o os h c.args.proposal.some_period c.args.proposal.few_periods
+    (better_old part o c.if-proposals-start-eq0.false c.if-proposal-proposals.false) (λ i _. refl)
