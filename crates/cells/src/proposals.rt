@@ -39,7 +39,7 @@ pub fn proposed_for(proposals: &[u64], limits: Limits, period: u64) -> Option<Va
 {
     let (seats, _) = proposals.as_chunks::<8>();
     let [here, _, a, b, c, d, _, _] = seats[(period - 1) as usize];
-    (here != 0).then_some(Value::of(a, b, c, d))
+    (here != 0).then_some(Value::from([a, b, c, d]))
 }
 
 // Keeps a proposal if there is none for its period, or one of a greater rank.
