@@ -15,7 +15,8 @@ returns c =
     let few : p - 1 < k = omega (arith, c.requires.proposals, c.requires.some, c.requires.few) in
     let seats = c.as_chunks.ensures.front in
     let flag : get_or (get_or c.as_chunks.result.0.now (p - 1) []) 0 0 ≡ get_or part (seat p) 0 =
-    ap (λ s. get_or (get_or s (p - 1) []) 0 0) seats ∙ number_at 8 k (p - 1) 0 (seat p) part few (omega arith) (omega arith) in
+    ap (λ s. get_or (get_or s (p - 1) []) 0 0) seats
+    ∙ number_at 8 k (p - 1) 0 (seat p) part few (omega arith) (omega arith) in
     let value : number_of c.from.result.limbs ≡ value_at part (seat p + 2) =
     ap number_of c.from.ensures ∙ ap (λ s. value_at (get_or s (p - 1) []) 2) seats
     ∙ chunk_value 8 k (p - 1) 2 (seat p + 2) part few (omega arith) (omega arith) in
