@@ -80,7 +80,7 @@ answers_read_back (refused r n) fit =
     let long : length bs ≡ 17 = ap suc (simp (length-append, length_digits)) in
     let why = field bs (le_bytes 8 n) 1 8 r (omega arith) refl in
     let place = field bs [] 9 8 n (ltb-true _ _ fits.1) (why.1 ∙ sym (append-nil _)) in
-    answer_at bs 0 (some_bytes bs (omega arith)) refl
+    answer_at bs 0 refl
     ∙ reaching-is Err 8 bs _ (omega arith)
     ∙ ap (λ k. refused_by k bs) why.0
     ∙ cond-true _ _ _ fits.0
@@ -101,7 +101,7 @@ answers_read_back (says vs xs) fit =
     let some = some_agreed xs in
     let long : length bs ≡ suc (8 + 64 * n + length A) =
     ap suc (length-append (said_bytes vs) A ∙ ap (λ k. k + length A) (length-said vs)) in
-    answer_at bs 1 (some_bytes bs (omega arith)) refl
+    answer_at bs 1 refl
     ∙ reaching-is Err 8 bs _ (omega arith)
     ∙ ap (λ k. says_by k bs) count.0
     ∙ cond-true _ _ _ fits.0

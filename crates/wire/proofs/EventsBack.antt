@@ -2,7 +2,7 @@
 use Rattle.std.proofs.Common.{◌≡◌, ℕ, suc, ◌<◌, true, List, [], ◌∷◌, length, get_or, take, drop, Ok, sym, refl, ap, ◌∙◌}
 use Rattle.std.proofs.Common.{arith, length-drop}
 use Rattle.std.proofs.lemmas.List.{take_all, take_at, drop_more}
-use Rattle.std.proofs.lemmas.Bool.{ltb-true, false≢true, ne_eqb}
+use Rattle.std.proofs.lemmas.Bool.{ltb-true, false≢true}
 use Rattle.values.specs.Digits.{le_number, le_bytes}
 use Rattle.values.proofs.Digits.{length_digits, number_digits}
 use Rattle.protocol.specs.Member.{Event, got_vote, got_proposal, got_block, timeout, unreadable, is_event}
@@ -13,14 +13,14 @@ use Rattle.wire.specs.Statements.{EventsReadBack, EventsOneSpelling}
 use Rattle.wire.proofs.Sized.{sized-is}
 use Rattle.wire.proofs.Fields.{length-vote, length_proposal, under-part}
 use Rattle.wire.proofs.FieldsBack.{vote_back, proposal_back, vote-spelled, proposal_spelled, field_bytes, length_part}
-use Rattle.wire.proofs.EventIn.{event_at, event_cases}
+use Rattle.wire.proofs.EventIn.{first_is, event_at, event_cases}
 
 -- bytes of the right number are the event that their first says
 pub event-sized : (bs : List ℕ) (t n : ℕ) (e : Event) → 0 < length bs → get_or bs 0 0 ≡ t →
     event_by t bs ≡ sized unreadable n bs e →
     length bs ≡ n → event_in bs ≡ e
 event-sized bs t n e some first by long =
-    event_at bs t (ne_eqb _ _ (λ z. omega arith)) first ∙ by ∙ sized-is unreadable n bs e long
+    event_at bs t (first_is bs t some first) ∙ by ∙ sized-is unreadable n bs e long
 
 pub events_read_back : EventsReadBack
 unfolding readable is_event

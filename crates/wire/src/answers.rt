@@ -2,18 +2,19 @@
 // then byte 0, or byte 1 and the value agreed on.
 ghost use Rattle.std.specs.Prelude.{◌≡◌, ◌+◌, ◌*◌, ◌<◌, ◌≤◌, true, length, take, IfOk, Ok, Err, OnOk, slice_index};
 ghost use Rattle.values.specs.Digits.{le_number};
+ghost use Rattle.std.specs.Option.{ok_or};
 ghost use Rattle.protocol.specs.Member.{says};
 ghost use Rattle.wire.specs.Bytes.{agreed_bytes, agreed_by, answer_bytes, answer_in, part};
 ghost use Rattle.wire.specs.Bytes.{reaching, refused_by, said_bytes, says_by, Written};
 ghost use Rattle.wire.specs.Statements.{sayable, votes_fit};
 ghost use Rattle.wire.specs.Meaning.{refusal_number, refusal_of, said_of, agreed_of, answer_of, answer_read};
 
-use crate::Vote;
 use crate::events::{room, whole};
 use crate::votes::{read_vote, write_vote};
+use crate::{UnknownNumber, Vote};
 use values::{Value, read_number, read_value, write_number, write_value};
 
-#[derive(Clone, Copy, PartialEq)]
+#[derive(Clone, Copy, Debug, PartialEq, Eq)]
 pub enum Refusal {
     NoEvent,
     OutOfRange,
@@ -23,11 +24,11 @@ pub enum Refusal {
     NoMoreBlocks,
 }
 
-impl Refusal {
-    pub fn number(self) -> u64
-        ensures is { result ≡ refusal_number self }
-    {
-        match self {
+impl From<Refusal> for u64 {
+    ghost from_gives = { λ refusal number. number ≡ refusal_number refusal };
+
+    fn from(refusal: Refusal) -> u64 {
+        match refusal {
             Refusal::NoEvent => 1,
             Refusal::OutOfRange => 2,
             Refusal::AgreedBefore => 3,
@@ -36,32 +37,35 @@ impl Refusal {
             Refusal::NoMoreBlocks => 6,
         }
     }
+}
 
-    // None for a number that is no refusal's.
-    pub fn of(number: u64) -> Option<Refusal>
-        ensures is { result ≡ refusal_of number }
-    {
+impl TryFrom<u64> for Refusal {
+    type Error = UnknownNumber;
+
+    ghost try_from_gives = { λ number result. result ≡ ok_or (refusal_of number) (record { 0 = number }) };
+
+    fn try_from(number: u64) -> Result<Refusal, UnknownNumber> {
         match number {
-            1 => Some(Refusal::NoEvent),
-            2 => Some(Refusal::OutOfRange),
-            3 => Some(Refusal::AgreedBefore),
-            4 => Some(Refusal::VotedBefore),
-            5 => Some(Refusal::NoMoreTime),
-            6 => Some(Refusal::NoMoreBlocks),
-            _ => None,
+            1 => Ok(Refusal::NoEvent),
+            2 => Ok(Refusal::OutOfRange),
+            3 => Ok(Refusal::AgreedBefore),
+            4 => Ok(Refusal::VotedBefore),
+            5 => Ok(Refusal::NoMoreTime),
+            6 => Ok(Refusal::NoMoreBlocks),
+            _ => Err(UnknownNumber(number)),
         }
     }
 }
 
 // The votes that a member says on one event: never more than two.
-#[derive(Clone, Copy, PartialEq)]
+#[derive(Clone, Copy, Debug, PartialEq, Eq)]
 pub enum Said {
     Nothing,
     One(Vote),
     Two(Vote, Vote),
 }
 
-#[derive(Clone, Copy, PartialEq)]
+#[derive(Clone, Copy, Debug, PartialEq, Eq)]
 pub enum Answer {
     // why, and at which place of the event's bytes
     Refused(Refusal, u64),
@@ -85,10 +89,7 @@ fn read_refused(bytes: &[u8]) -> Result<Answer, usize>
     requires { 8 < length bytes.now }
     ensures is { answer_read result ≡ refused_by (le_number (part 1 8 bytes.now)) bytes.now }
 {
-    let number = read_number(&bytes[1..9]);
-    let Some(refusal) = Refusal::of(number) else {
-        return Err(1);
-    };
+    let refusal = Refusal::try_from(read_number(&bytes[1..9])).map_err(|_| 1usize)?;
     whole(bytes, 17)?;
     Ok(Answer::Refused(refusal, read_number(&bytes[9..17])))
 }
@@ -142,15 +143,12 @@ pub fn read_answer(bytes: &[u8]) -> Result<Answer, usize>
     ensures is { answer_read result ≡ answer_in bytes.now }
     ensures fits { IfOk (answer_read result) (λ a. sayable a ≡ true) }
 {
-    if bytes.is_empty() {
-        return Err(0);
-    }
-    match bytes[0] {
-        0 => {
+    match bytes.first() {
+        Some(0) => {
             reaches(bytes, 8)?;
             read_refused(bytes)
         }
-        1 => {
+        Some(1) => {
             reaches(bytes, 8)?;
             read_says(bytes)
         }
@@ -240,7 +238,7 @@ pub fn write_answer(out: &mut [u8], answer: Answer) -> Result<usize, usize>
         Answer::Refused(refusal, place) => {
             room(out, 17)?;
             out[0] = 0;
-            write_number(&mut out[1..9], refusal.number());
+            write_number(&mut out[1..9], refusal.into());
             write_number(&mut out[9..17], place);
             Ok(17)
         }

@@ -8,7 +8,7 @@ use crate::votes::{read_proposal, read_vote, write_proposal, write_vote};
 use crate::{Proposal, Vote};
 use values::{Value, read_value, write_value};
 
-#[derive(Clone, Copy, PartialEq)]
+#[derive(Clone, Copy, Debug, PartialEq, Eq)]
 pub enum Event {
     Vote(Vote),
     Proposal(Proposal),
@@ -20,13 +20,11 @@ pub enum Event {
 pub(crate) fn whole(bytes: &[u8], count: usize) -> Result<(), usize>
     ensures is { result ≡ sized Err count bytes.now (Ok tt) }
 {
-    if bytes.len() < count {
-        return Err(bytes.len());
+    if bytes.len() == count {
+        Ok(())
+    } else {
+        Err(bytes.len().min(count))
     }
-    if count < bytes.len() {
-        return Err(count);
-    }
-    Ok(())
 }
 
 // The event that the bytes are, or the place at which they cease to be one.
@@ -34,23 +32,20 @@ pub fn read_event(bytes: &[u8]) -> Result<Event, usize>
     ensures is { event_read result ≡ event_in bytes.now }
     ensures fits { readable (event_read result) ≡ true }
 {
-    if bytes.is_empty() {
-        return Err(0);
-    }
-    match bytes[0] {
-        0 => {
+    match bytes.first() {
+        Some(0) => {
             whole(bytes, 65)?;
             Ok(Event::Vote(read_vote(&bytes[1..65])))
         }
-        1 => {
+        Some(1) => {
             whole(bytes, 49)?;
             Ok(Event::Proposal(read_proposal(&bytes[1..49])))
         }
-        2 => {
+        Some(2) => {
             whole(bytes, 33)?;
             Ok(Event::Block(read_value(&bytes[1..33])))
         }
-        3 => {
+        Some(3) => {
             whole(bytes, 1)?;
             Ok(Event::Timeout)
         }

@@ -1,14 +1,16 @@
 // Votes and proposals, and their bytes: kind, period, step, value, from; and period, rank, value.
 ghost use Rattle.std.specs.Prelude.{◌≡◌, true, length};
+ghost use Rattle.std.specs.Option.{ok_or};
 ghost use Rattle.protocol.specs.Member.{got_vote, got_proposal};
 ghost use Rattle.protocol.specs.Programs.{readable};
 ghost use Rattle.wire.specs.Bytes.{vote_bytes, vote_in, proposal_bytes, proposal_in};
 ghost use Rattle.wire.specs.Meaning.{kind_number, kind_of, vote_of, proposal_of};
 
+use crate::UnknownNumber;
 use values::{Value, read_number, read_value, write_number, write_value};
 
-// The kinds that are known good. A vote from outside has its kind as a number, which may be another.
-#[derive(Clone, Copy, PartialEq)]
+// The kinds that are known good.
+#[derive(Clone, Copy, Debug, PartialEq, Eq)]
 pub enum Kind {
     Soft,
     Cert,
@@ -16,34 +18,38 @@ pub enum Kind {
     NextNone,
 }
 
-impl Kind {
-    pub fn number(self) -> u64
-        ensures is { result ≡ kind_number self }
-    {
-        match self {
+impl From<Kind> for u64 {
+    ghost from_gives = { λ kind number. number ≡ kind_number kind };
+
+    fn from(kind: Kind) -> u64 {
+        match kind {
             Kind::Soft => 0,
             Kind::Cert => 1,
             Kind::Next => 2,
             Kind::NextNone => 3,
         }
     }
+}
 
-    // None for a number that is no kind's.
-    pub fn of(number: u64) -> Option<Kind>
-        ensures is { result ≡ kind_of number }
-    {
+impl TryFrom<u64> for Kind {
+    type Error = UnknownNumber;
+
+    ghost try_from_gives = { λ number result. result ≡ ok_or (kind_of number) (record { 0 = number }) };
+
+    fn try_from(number: u64) -> Result<Kind, UnknownNumber> {
         match number {
-            0 => Some(Kind::Soft),
-            1 => Some(Kind::Cert),
-            2 => Some(Kind::Next),
-            3 => Some(Kind::NextNone),
-            _ => None,
+            0 => Ok(Kind::Soft),
+            1 => Ok(Kind::Cert),
+            2 => Ok(Kind::Next),
+            3 => Ok(Kind::NextNone),
+            _ => Err(UnknownNumber(number)),
         }
     }
 }
 
-#[derive(Clone, Copy, PartialEq)]
+#[derive(Clone, Copy, Debug, PartialEq, Eq)]
 pub struct Vote {
+    // Kept so: a vote from outside may have any number here, and is then refused as out of range, not as no event.
     pub kind: u64,
     pub period: u64,
     pub step: u64,
@@ -51,7 +57,7 @@ pub struct Vote {
     pub from: u64,
 }
 
-#[derive(Clone, Copy, PartialEq)]
+#[derive(Clone, Copy, Debug, PartialEq, Eq)]
 pub struct Proposal {
     pub period: u64,
     pub rank: u64,

@@ -1,5 +1,5 @@
-use Rattle.std.proofs.Common.{◌≡◌, ℕ, ◌<◌, true, List, get_or, IfOk, Result, sym, refl, ◌∙◌, arith, w8, Fits}
-use Rattle.std.proofs.lemmas.Bool.{cond-true}
+use Rattle.std.proofs.Common.{◌≡◌, ℕ, true, List, get_or, IfOk, Some, rules, Result, sym, refl, ◌∙◌, w8, Fits}
+use Rattle.std.specs.List.{slice_get}
 use Rattle.values.proofs.Places.{under_by_places}
 use Rattle.protocol.specs.Member.{Answer}
 use Rattle.wire.specs.Bytes.{answer_in}
@@ -13,43 +13,38 @@ fits_in : (bs : List ℕ) (r : Result Answer ℕ) → ((i : ℕ) → Fits w8 (ge
     IfOk r (λ a. sayable a ≡ true)
 fits_in bs r typed is = answer_fits bs r (under_by_places 256 bs (λ i. (typed i).fits)) is
 
-pub returns-then-is_empty : goal.returns-then-is_empty
+pub returns-in_default-2 : goal.returns-in_default-2
 unfolding answer_in
-returns-then-is_empty c =
-    record { is = sym (cond-true _ _ _ (sym c.if-is_empty.ensures)); fits = tt }
+returns-in_default-2 c = record { is = search rules; fits = tt }
 
-pub returns-in_err-reaches-in-0 : goal.returns-in_err-reaches-in-0
-returns-in_err-reaches-in-0 c =
+pub returns-in_err-reaches-in-Some-eq0 : goal.returns-in_err-reaches-in-Some-eq0
+returns-in_err-reaches-in-Some-eq0 c =
     let bs = c.args.bytes.now in
-    let at = answer_broken bs 0 _ (sym c.if-is_empty.ensures) c.in-0.is refl in
     let from = c.from_residual in
-    let is = at _ from.result c.in_err-reaches-in-0.ensures.is from.ensures.1 in
+    let is = answer_broken bs 0 _ (search rules) refl _ from.result c.in_err-reaches-in-Some-eq0.ensures.is from.ensures.1 in
     record { is = is; fits = fits_in bs _ c.type_inv.bytes is }
 
-pub returns-in_ok-reaches-in-0 : goal.returns-in_ok-reaches-in-0
-returns-in_ok-reaches-in-0 c =
+pub returns-in_ok-reaches-in-Some-eq0 : goal.returns-in_ok-reaches-in-Some-eq0
+returns-in_ok-reaches-in-Some-eq0 c =
     let bs = c.args.bytes.now in
-    let at = answer-long bs 0 _ (sym c.if-is_empty.ensures) c.in-0.is refl in
-    let is = c.read_refused.ensures.is ∙ at _ c.in_ok-reaches-in-0.ensures.is in
+    let is = c.read_refused.ensures.is ∙ answer-long bs 0 _ (search rules) refl _ c.in_ok-reaches-in-Some-eq0.ensures.is in
     record { is = is; fits = fits_in bs _ c.type_inv.bytes is }
 
-pub returns-in_err-reaches-in-1 : goal.returns-in_err-reaches-in-1
-returns-in_err-reaches-in-1 c =
+pub returns-in_err-reaches-in-Some-eq1 : goal.returns-in_err-reaches-in-Some-eq1
+returns-in_err-reaches-in-Some-eq1 c =
     let bs = c.args.bytes.now in
-    let at = answer_broken bs 1 _ (sym c.if-is_empty.ensures) c.in-1.is refl in
-    let from = c.from_residual-in_err-reaches-in-1 in
-    let is = at _ from.result c.in_err-reaches-in-1.ensures.is from.ensures.1 in
+    let from = c.from_residual-in_err-reaches-in-Some-eq1 in
+    let is = answer_broken bs 1 _ (search rules) refl _ from.result c.in_err-reaches-in-Some-eq1.ensures.is from.ensures.1 in
     record { is = is; fits = fits_in bs _ c.type_inv.bytes is }
 
-pub returns-in_ok-reaches-in-1 : goal.returns-in_ok-reaches-in-1
-returns-in_ok-reaches-in-1 c =
+pub returns-in_ok-reaches-in-Some-eq1 : goal.returns-in_ok-reaches-in-Some-eq1
+returns-in_ok-reaches-in-Some-eq1 c =
     let bs = c.args.bytes.now in
-    let at = answer-long bs 1 _ (sym c.if-is_empty.ensures) c.in-1.is refl in
-    let is = c.read_says.ensures.is ∙ at _ c.in_ok-reaches-in-1.ensures.is in
+    let is = c.read_says.ensures.is ∙ answer-long bs 1 _ (search rules) refl _ c.in_ok-reaches-in-Some-eq1.ensures.is in
     record { is = is; fits = fits_in bs _ c.type_inv.bytes is }
 
 pub returns-in_default : goal.returns-in_default
 returns-in_default c =
     let bs = c.args.bytes.now in
-    let other : 1 < get_or bs 0 0 = omega arith in
-    record { is = sym (answer_at bs _ (sym c.if-is_empty.ensures) refl ∙ answer-rest bs _ other); fits = tt }
+    let first : slice_get bs 0 ≡ Some c.in_default.field-0.now = search rules in
+    record { is = sym (answer_at bs _ first ∙ answer-rest bs c.in_default.field-0.now (search rules)); fits = tt }
