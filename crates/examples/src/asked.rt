@@ -7,7 +7,7 @@ use wire::{Answer, Event, Kind, Proposal, Said, Vote, write_event};
 
 pub(crate) fn vote(kind: Kind, period: u64, step: u64, value: u64, from: u64) -> Vote {
     Vote {
-        kind: kind.number(),
+        kind: kind.into(),
         period,
         step,
         value: Value::from([value, 0, 0, 0]),

@@ -23,7 +23,7 @@ fn soft(limits: Limits, last: u64, from: u64) -> Vote
     ensures good { vote_in_range (limits_of all limits) (vote_of result) ≡ true }
 {
     Vote {
-        kind: Kind::Soft.number(),
+        kind: Kind::Soft.into(),
         period: 1,
         step: 0,
         value: value(last),
@@ -130,7 +130,7 @@ fn at_place(limits: Limits, period: u64, place: u64, from: u64) -> Vote
         _ => (Kind::NextNone, place - 8),
     };
     Vote {
-        kind: kind.number(),
+        kind: kind.into(),
         period,
         step,
         value: Value::zero(),

@@ -11,7 +11,7 @@ use wire::{
 // A soft, or a cert, vote of period 1 for value 5, from member 0.
 fn first_vote(kind: Kind) -> Vote {
     Vote {
-        kind: kind.number(),
+        kind: kind.into(),
         period: 1,
         step: 0,
         value: Value::from([5, 0, 0, 0]),
@@ -43,7 +43,7 @@ fn check_event(rt: &impl Abort, event: Event, digits: &[u8]) -> Result<(), Fail>
 fn vote_bytes(rt: HostRuntime) -> Result<(), Fail> {
     let value = Value::from([1, 2, 3, 4]);
     let vote = Vote {
-        kind: Kind::Next.number(),
+        kind: Kind::Next.into(),
         period: 258,
         step: 4,
         value,

@@ -54,7 +54,7 @@ fn put_refused<W: fmt::Write>(
 ) -> fmt::Result
     ensures is { WritesOnOk W.write_str_gives f.old result (refused_text (refusal_number refusal) place) f.new }
 {
-    let number = refusal.number();
+    let number = u64::from(refusal);
     write!(f, "refused {number} {place}")
 }
 

@@ -53,7 +53,7 @@ impl Member {
         if self.agreed.is_some() {
             return self;
         }
-        if vote.kind != Kind::Cert.number() {
+        if vote.kind != u64::from(Kind::Cert) {
             return self;
         }
         if !is_quorum(memory, self.limits, vote) {

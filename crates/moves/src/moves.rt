@@ -116,7 +116,7 @@ impl Member {
         ensures fields { vote_of result ≡ own_vote self (kind_number kind) step (value_of value) }
     {
         Vote {
-            kind: kind.number(),
+            kind: kind.into(),
             period: self.period,
             step,
             value,
@@ -157,7 +157,7 @@ impl Member {
             Stands result memory.now (onward (lim self) (vote_of vote) (silent m)).member }
         ensures same { Same self result }
     {
-        let Some(kind) = Kind::of(vote.kind) else {
+        let Ok(kind) = Kind::try_from(vote.kind) else {
             return self;
         };
         match kind {

@@ -22,7 +22,7 @@ fn is_later_step(limits: Limits, step: u64) -> bool
 pub(crate) fn vote_in_range(limits: Limits, vote: Vote) -> bool
     ensures is { result ≡ vote_in_range (limits_of all limits) (vote_of vote) }
 {
-    let Some(kind) = Kind::of(vote.kind) else {
+    let Ok(kind) = Kind::try_from(vote.kind) else {
         return false;
     };
     if vote.period < 1 {
