@@ -1,5 +1,5 @@
 -- In which period a quorum is certain of a value.
-use Rattle.std.proofs.Common.{◌≡◌, ℕ, zero, suc, ◌+◌, ◌<◌, true, false, List, sym, refl, ap, ◌∙◌, ⊎_elim, add-one}
+use Rattle.std.proofs.Common.{◌≡◌, ℕ, zero, suc, ◌+◌, ◌-◌, ◌<◌, ◌≤◌, true, false, List, sym, refl, ap, ◌∙◌, ⊎_elim, add-one}
 use Rattle.std.proofs.Common.{arith}
 use Rattle.std.proofs.lemmas.Bool.{both_ways, or_left, or_right, or_cases, or_from, cases_eq}
 use Rattle.protocol.specs.Vote.{cert, Vote, Limits, has_quorum}
@@ -11,13 +11,12 @@ module _ (l : Limits) (x : ℕ) where
   unfolding certified_by
   by_none vs = refl
 
-  pub by_more : (n : ℕ) (vs : List Vote) → has_quorum l cert (n + 1) 0 x vs ≡ false → certified_by l x n vs ≡ false →
-      certified_by l x (n + 1) vs ≡ false
+  pub by_more : (p : ℕ) (vs : List Vote) → 1 ≤ p → has_quorum l cert p 0 x vs ≡ false →
+      certified_by l x (p - 1) vs ≡ false → certified_by l x p vs ≡ false
   unfolding certified_by
-  by_more n vs not_here before =
-      let here : has_quorum l cert (suc n) 0 x vs ≡ false =
-      ap (λ p. has_quorum l cert p 0 x vs) (sym (add-one n)) ∙ not_here in
-      ap (λ m. certified_by l x m vs) (add-one n) ∙ or_from _ _ here before
+  by_more zero vs some not_here before = absurd (omega (arith, some))
+  by_more (suc n) vs some not_here before =
+      or_from _ _ not_here (ap (λ m. certified_by l x m vs) (omega arith) ∙ before)
 
   pub by_here : (m n : ℕ) (vs : List Vote) → m < n → has_quorum l cert (m + 1) 0 x vs ≡ true →
       certified_by l x n vs ≡ true

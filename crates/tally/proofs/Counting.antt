@@ -3,17 +3,18 @@ use Rattle.std.proofs.Common.{◌≡◌, ℕ, zero, suc, ◌+◌, ◌<◌, ◌�
 use Rattle.std.proofs.Common.{◌∷◌, sym, refl, ap, ◌∙◌, ⊎_elim, zero-add, add-one, arith}
 use Rattle.std.proofs.lemmas.Bool.{and_parts, eqb-true, eq-eqb, ne_eqb, not-true, cases_Bool, cases_eq, cond-true}
 use Rattle.std.proofs.lemmas.Bool.{cond-false}
+use Rattle.std.proofs.lemmas.List.{take_all}
 use Rattle.protocol.specs.Vote.{Vote, Limits, slot_taken, is_for, count, quorum, has_quorum}
 use Rattle.protocol.specs.Member.{vote_in_range}
 use Rattle.protocol.specs.Network.{all_different, how_many}
 use Rattle.protocol.proofs.Counting.{how_many-none}
 use Rattle.protocol.proofs.Ranges.{ranged}
 use Rattle.tally.specs.Layout.{row_of, slot_in_range}
-use Rattle.tally.specs.Votes.{heard_at, is_only, row_count, voted, all_in_range, Holds}
+use Rattle.tally.specs.Votes.{heard_at, is_only, voted, all_in_range, Holds}
+use Rattle.tally.specs.Rows.{number_for}
 use Rattle.tally.proofs.Heard.{taken_voted, none_some}
-
-abbrev bit : Bool → ℕ
-bit b = cond b 1 0
+use Rattle.tally.proofs.Entries.{bit, number_first}
+use Rattle.std.proofs.Common.{length, get_or, take}
 
 pub how_many_same : (n : ℕ) (f g : ℕ → Bool) → ((i : ℕ) → i < n → g i ≡ f i) → how_many n g ≡ how_many n f
 unfolding how_many
@@ -43,51 +44,6 @@ how_many_put (suc n) f g j low off same = ⊎_elim last (before (λ below. how_m
         let rest = fewer below in
         let here : bit (g n) ≡ bit (f n) = ap bit (same n (λ e. other (sym e))) in
         omega (arith, rest, here)
-
-pub how_many_grows : (m n : ℕ) (f : ℕ → Bool) → m ≤ n → how_many m f ≤ how_many n f
-unfolding how_many
-how_many_grows m zero f h = let e : m ≡ 0 = omega arith in rw e (omega arith)
-how_many_grows m (suc n) f h =
-    ⊎_elim (λ e. rw e (omega arith)) (λ ne. let rest = how_many_grows m n f (omega arith) in omega arith)
-    (cases_eq m (suc n))
-
-pub row_grows : (part : List ℕ) (first m n x : ℕ) → m ≤ n → row_count part first m x ≤ row_count part first n x
-row_grows part first m n x h = how_many_grows m n _ h
-
--- one entry more of a row
-module _ (part : List ℕ) (first n x : ℕ) where
-  pub row-none : row_count part first 0 x ≡ 0
-  unfolding how_many
-  row-none = refl
-
-  row_more : row_count part first (n + 1) x ≡ bit (is_only x (heard_at part (first + n))) + row_count part first n x
-  unfolding how_many
-  row_more = rw (add-one n) refl
-
-  pub row_yes : true ≡ is_only x (heard_at part (first + n)) →
-      row_count part first (n + 1) x ≡ 1 + row_count part first n x
-  row_yes e = row_more ∙ ap (λ b. bit b + row_count part first n x) (sym e)
-
-  pub row_no : false ≡ is_only x (heard_at part (first + n)) → row_count part first (n + 1) x ≡ row_count part first n x
-  row_no e = row_more ∙ ap (λ b. bit b + row_count part first n x) (sym e) ∙ zero-add _
-
-  pub row_empty : [] ≡ heard_at part (first + n) → row_count part first (n + 1) x ≡ row_count part first n x
-  unfolding is_only
-  row_empty e = row_more ∙ ap (λ b. bit b + row_count part first n x) (ap (is_only x) (sym e)) ∙ zero-add _
-
-  pub row_same : (y : ℕ) → y ∷ [] ≡ heard_at part (first + n) → y ≡ x →
-      row_count part first (n + 1) x ≡ 1 + row_count part first n x
-  unfolding is_only
-  row_same y e same =
-      row_more ∙ ap (λ b. bit b + row_count part first n x) (ap (is_only x) (sym e) ∙ eq-eqb x y (sym same))
-
-  pub row_other : (y : ℕ) → y ∷ [] ≡ heard_at part (first + n) → (y ≡ x → ⊥) →
-      row_count part first (n + 1) x ≡ row_count part first n x
-  unfolding is_only
-  row_other y e other =
-      row_more
-      ∙ ap (λ b. bit b + row_count part first n x) (ap (is_only x) (sym e) ∙ ne_eqb x y (λ at. other (sym at)))
-      ∙ zero-add _
 
 -- the count of votes, member by member
 pub count-members : (l : Limits) (k p s x : ℕ) (vs : List Vote) → all_different vs ≡ true → all_in_range l vs ≡ true →
@@ -137,15 +93,12 @@ count-members l k p s x (w ∷ ws) different good =
         (λ j. not-counted j + rest j) ∙ zero-add _ ∙ sym (how_many_same l.members before after same)
 
 -- the count of votes is that of the slot's row
-pub count-row : (l : Limits) (part : List ℕ) (vs : List Vote) → Holds l part vs → (k p s x : ℕ) →
-    slot_in_range l k p s ≡ true →
-    count k p s x vs ≡ row_count part (row_of l k p s) l.members x
-count-row l part vs h k p s x good =
-    count-members l k p s x vs h.different h.in_range
-    ∙ how_many_same l.members _ _ (λ i low. ap (is_only x) (sym (h.entries k p s i good low)))
-
-pub quorum-row : (l : Limits) (part : List ℕ) (vs : List Vote) → Holds l part vs → (k p s x : ℕ) →
-    slot_in_range l k p s ≡ true →
-    has_quorum l k p s x vs ≡ leb (quorum l.members) (row_count part (row_of l k p s) l.members x)
-unfolding has_quorum
-quorum-row l part vs h k p s x good = ap (leb (quorum l.members)) (count-row l part vs h k p s x good)
+pub count-row : (l : Limits) (part : List ℕ) (vs : List Vote) → Holds l part vs → (k p s x : ℕ) (row : List (List ℕ)) →
+    slot_in_range l k p s ≡ true → length row ≡ l.members →
+    ((i : ℕ) → i < l.members → heard_at (get_or row i []) 0 ≡ heard_at part (row_of l k p s + i)) →
+    number_for x row ≡ count k p s x vs
+count-row l part vs h k p s x row good long entries =
+    ap (number_for x) (sym (take_all l.members row (omega (arith, long))))
+    ∙ number_first x l.members row (omega arith)
+    ∙ how_many_same l.members _ _ (λ i low. ap (is_only x) (entries i low ∙ h.entries k p s i good low))
+    ∙ sym (count-members l k p s x vs h.different h.in_range)

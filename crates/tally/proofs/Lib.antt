@@ -2,6 +2,7 @@ pub mod Index
 pub mod KindOf
 pub mod InRange
 pub mod Heard
+pub mod Entries
 pub mod Counting
 pub mod Majority
 pub mod OneChosen

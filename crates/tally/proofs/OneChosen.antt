@@ -7,23 +7,15 @@ use Rattle.std.proofs.lemmas.Bool.{cases_Bool, cases_eq, cond-true, cond-false}
 use Rattle.protocol.specs.Vote.{soft, Vote, Limits, is_for, count, quorum, has_quorum}
 use Rattle.protocol.specs.Member.{is_in, chosen_in, vote_in_range}
 use Rattle.protocol.proofs.Ranges.{Ranged, ranged}
-use Rattle.tally.specs.Layout.{row_of, slot_in_range}
-use Rattle.tally.specs.Votes.{row_count, all_in_range, Holds}
-use Rattle.tally.proofs.Counting.{quorum-row}
+use Rattle.tally.specs.Votes.{all_in_range}
 
--- only the majority of a row can be a quorum
-pub quorum-is_majority : (l : Limits) (part : List ℕ) (vs : List Vote) (k p s c : ℕ) → Holds l part vs →
-    slot_in_range l k p s ≡ true →
-    1 ≤ l.members →
-    ((x : ℕ) → (x ≡ c → ⊥) → 2 * row_count part (row_of l k p s) l.members x ≤ l.members) →
-    (x : ℕ) → has_quorum l k p s x vs ≡ true → x ≡ c
-quorum-is_majority l part vs k p s c h good some half x has =
+-- only a value that more than half are for can have a quorum
+pub quorum-is_majority : (l : Limits) (vs : List Vote) (k p s c : ℕ) → 1 ≤ l.members →
+    ((x : ℕ) → (x ≡ c → ⊥) → 2 * count k p s x vs ≤ l.members) → (x : ℕ) → has_quorum l k p s x vs ≡ true → x ≡ c
+unfolding has_quorum
+quorum-is_majority l vs k p s c some half x has =
     ⊎_elim (λ e. e)
-    (λ other. absurd (omega (
-      arith,
-      half x other,
-      leb-true (quorum l.members) _ (sym (quorum-row l part vs h k p s x good) ∙ has),
-    )))
+    (λ other. absurd (omega (arith, half x other, leb-true (quorum l.members) (count k p s x vs) has)))
     (cases_eq x c)
 
 -- a quorum is at least one vote
@@ -101,17 +93,14 @@ chosen-out l p (w ∷ ws) vs bs good out =
         absurd (out (omega (arith, same, r.from_1)) (omega (arith, same, r.periods)))
     other range (inr e) = e
 
--- the majority of the row of soft votes, if it has a quorum and its block is here
-pub chosen_majority : (l : Limits) (part : List ℕ) (vs : List Vote) (bs : List ℕ) (p first c : ℕ) (b : Bool) →
-    Holds l part vs →
-    1 ≤ l.members → slot_in_range l soft p 0 ≡ true → first ≡ row_of l soft p 0 →
-    ((x : ℕ) → (x ≡ c → ⊥) → 2 * row_count part first l.members x ≤ l.members) →
+-- the majority of the soft votes, if it has a quorum and its block is here
+pub chosen_majority : (l : Limits) (vs : List Vote) (bs : List ℕ) (p c : ℕ) (b : Bool) → 1 ≤ l.members →
+    ((x : ℕ) → (x ≡ c → ⊥) → 2 * count soft p 0 x vs ≤ l.members) →
     (has_quorum l soft p 0 c vs && is_in c bs) ≡ b → cond b (c ∷ []) [] ≡ chosen_in l p vs vs bs
-chosen_majority l part vs bs p first c b h some good at half e = by b e
+chosen_majority l vs bs p c b some half e = by b e
   where
     one : (x : ℕ) → has_quorum l soft p 0 x vs ≡ true → x ≡ c
-    one = quorum-is_majority l part vs soft p 0 c h good some
-        (λ x other. omega (arith, half x other, ap (λ n. row_count part n l.members x) at))
+    one = quorum-is_majority l vs soft p 0 c some half
 
     by : (t : Bool) → (has_quorum l soft p 0 c vs && is_in c bs) ≡ t → cond t (c ∷ []) [] ≡ chosen_in l p vs vs bs
     by true e =

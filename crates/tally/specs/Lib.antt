@@ -1,3 +1,4 @@
 pub mod Layout
 pub mod Votes
+pub mod Rows
 pub mod Valid

@@ -16,8 +16,5 @@ pub fn add_block(blocks: &mut [u64], count: u64, value: Value) -> u64
         ≡ add_block (number_of value.limbs) (blocks_in blocks.old count) }
     ensures only { Only (4 * count) (4 * count + 4) blocks.old blocks.new }
 {
-    match cells::add_block(blocks, count, value) {
-        Some(number) => number,
-        None => unreachable!(),
-    }
+    cells::add_block(blocks, count, value).unwrap()
 }

@@ -10,56 +10,68 @@ ghost use Rattle.cells.specs.Blocks.{blocks_in};
 ghost use Rattle.tally.specs.Layout.{votes_size};
 ghost use Rattle.tally.specs.Votes.{Votes, Holds, certified_by};
 
-use super::rows::{CERT, SOFT, majority, row};
-use super::slots::quorum_for;
+use super::rows::majority;
+use super::slots::Slot;
 use cells::has_block;
 use limits::Limits;
 use values::Value;
+use wire::Kind;
 
-// The value that a quorum of soft votes of the period is for, if its block is among the first `count`.
-pub fn chosen(
-    votes: &[u64],
-    limits: Limits,
-    period: u64,
-    blocks: &[u64],
-    count: u64,
-) -> Option<Value>
-    requires votes { length votes.now ≡ votes_size (limits_of all limits) }
-    requires blocks { 4 * count ≤ length blocks.now }
-    ensures is { (vs : Votes) → Holds (limits_of all limits) votes.now vs →
-        listed result ≡ chosen_in (limits_of all limits) period vs vs (blocks_in blocks.now count) }
-{
-    if period < 1 || period > limits.periods {
-        return None;
-    }
-    let value = majority(votes, limits, row(limits, SOFT, period, 0));
-    if quorum_for(votes, limits, SOFT, period, 0, value) && has_block(blocks, count, value) {
-        return Some(value);
-    }
-    None
+// The votes' part of memory, with the limits for which it is laid out.
+#[derive(Clone, Copy)]
+pub struct HeardVotes<'a> {
+    pub limits: Limits,
+    pub votes: &'a [u64],
+    ghost size: { length votes.now ≡ votes_size (limits_of all limits) },
 }
 
-// Is a quorum certain of this value in this period?
-pub fn certified_in(votes: &[u64], limits: Limits, period: u64, value: Value) -> bool
-    requires votes { length votes.now ≡ votes_size (limits_of all limits) }
-    requires some { 1 ≤ period }
-    requires few { period ≤ limits.periods }
-    ensures is { (vs : Votes) → Holds (limits_of all limits) votes.now vs →
-        result ≡ has_quorum (limits_of all limits) cert period 0 (number_of value.limbs) vs }
-{
-    quorum_for(votes, limits, CERT, period, 0, value)
-}
-
-// Is a quorum certain of this value in some period?
-pub fn certified(votes: &[u64], limits: Limits, value: Value) -> bool
-    requires votes { length votes.now ≡ votes_size (limits_of all limits) }
-    ensures is { (vs : Votes) → Holds (limits_of all limits) votes.now vs →
-        result ≡ certified_by (limits_of all limits) (number_of value.limbs) limits.periods vs }
-{
-    for before in 0..limits.periods {
-        if certified_in(votes, limits, before + 1, value) {
-            return true;
+impl HeardVotes<'_> {
+    // The value that a quorum of soft votes of the period is for, if its block is among the first `count`.
+    pub fn chosen(self, period: u64, blocks: &[u64], count: u64) -> Option<Value>
+        requires blocks { 4 * count ≤ length blocks.now }
+        ensures is { (vs : Votes) → Holds (limits_of all self.entry.limits) self.entry.votes.now vs →
+            listed result ≡ chosen_in (limits_of all self.entry.limits) period vs vs (blocks_in blocks.now count) }
+    {
+        let HeardVotes { limits, votes } = self;
+        if !(1..=limits.periods).contains(&period) {
+            return None;
         }
+        let slot = Slot {
+            limits,
+            kind: Kind::Soft,
+            period,
+            step: 0,
+        };
+        let value = majority(slot.row(votes));
+        (slot.quorum_for(votes, value) && has_block(blocks, count, value)).then_some(value)
     }
-    false
+
+    // Is a quorum certain of this value in this period?
+    pub fn certified_in(self, period: u64, value: Value) -> bool
+        requires some { 1 ≤ period }
+        requires few { period ≤ self.limits.periods }
+        ensures is { (vs : Votes) → Holds (limits_of all self.entry.limits) self.entry.votes.now vs →
+            result ≡ has_quorum (limits_of all self.entry.limits) cert period 0 (number_of value.limbs) vs }
+    {
+        let slot = Slot {
+            limits: self.limits,
+            kind: Kind::Cert,
+            period,
+            step: 0,
+        };
+        slot.quorum_for(self.votes, value)
+    }
+
+    // Is a quorum certain of this value in some period?
+    pub fn certified(self, value: Value) -> bool
+        ensures is { (vs : Votes) → Holds (limits_of all self.entry.limits) self.entry.votes.now vs →
+            result ≡ certified_by (limits_of all self.entry.limits) (number_of value.limbs) self.entry.limits.periods vs }
+    {
+        for period in 1..=self.limits.periods {
+            if self.certified_in(period, value) {
+                return true;
+            }
+        }
+        false
+    }
 }

@@ -3,7 +3,6 @@
 
 mod blocks;
 mod decided;
-mod proposals;
 mod ranges;
 mod rows;
 mod sizes;
@@ -12,9 +11,7 @@ mod valid;
 mod votes;
 
 pub use blocks::add_block;
-pub use cells::{clear, has_block, proposed_for, put_value, value_at};
-pub use decided::{certified, certified_in, chosen};
-pub use proposals::keep;
+pub use cells::{clear, has_block, keep, proposed_for, put_value, value_at};
+pub use decided::HeardVotes;
 pub use sizes::{blocks_size, proposals_size, votes_size};
 pub use valid::ValidVote;
-pub use votes::{has_heard, has_quorum, hear, taken, voted_in};

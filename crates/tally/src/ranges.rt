@@ -13,10 +13,7 @@ use wire::{Kind, Vote};
 fn is_later_step(limits: Limits, step: u64) -> bool
     ensures is { Decides result ((2 ≤ step) × (step ≤ limits.steps + 1)) }
 {
-    if step < 2 {
-        return false;
-    }
-    step <= limits.steps + 1
+    (2..=limits.steps + 1).contains(&step)
 }
 
 pub(crate) fn vote_in_range(limits: Limits, vote: Vote) -> bool
@@ -25,24 +22,13 @@ pub(crate) fn vote_in_range(limits: Limits, vote: Vote) -> bool
     let Ok(kind) = Kind::try_from(vote.kind) else {
         return false;
     };
-    if vote.period < 1 {
-        return false;
-    }
-    if vote.period > limits.periods {
-        return false;
-    }
-    if vote.from >= limits.members {
+    if !(1..=limits.periods).contains(&vote.period) || vote.from >= limits.members {
         return false;
     }
     match kind {
         Kind::Soft | Kind::Cert => vote.step == 0,
         Kind::Next => is_later_step(limits, vote.step),
-        Kind::NextNone => {
-            if !vote.value.is_zero() {
-                return false;
-            }
-            is_later_step(limits, vote.step)
-        }
+        Kind::NextNone => vote.value.is_zero() && is_later_step(limits, vote.step),
     }
 }
 
@@ -52,9 +38,10 @@ impl ValidVote {
         ensures is { MatchOption result (vote_in_range (limits_of all limits) (vote_of vote) ≡ false)
             (λ v. (v.limits ≡ limits) × (v.vote ≡ vote)) }
     {
-        if !vote_in_range(limits, vote) {
-            return None;
+        if vote_in_range(limits, vote) {
+            Some(ValidVote { limits, vote })
+        } else {
+            None
         }
-        Some(ValidVote { limits, vote })
     }
 }

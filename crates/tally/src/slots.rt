@@ -1,51 +1,91 @@
 // Slots, each of a kind, a period and a step: what a member voted for in one, and whether a quorum is for a value.
-ghost use Rattle.std.specs.Prelude.{◌≡◌, ◌+◌, ◌*◌, ◌<◌, ◌≤◌, true, [], ◌∷◌, length};
+ghost use Rattle.std.specs.Prelude.{◌≡◌, ℕ, ◌+◌, ◌*◌, ◌<◌, ◌≤◌, true, [], ◌∷◌, length, slice_index_or};
 ghost use Rattle.limits.specs.Limits.{limits_of};
 ghost use Rattle.protocol.specs.Promises.{all};
-ghost use Rattle.protocol.specs.Vote.{has_quorum};
+ghost use Rattle.protocol.specs.Vote.{count, has_quorum};
 ghost use Rattle.values.specs.Digits.{number_of};
+ghost use Rattle.wire.specs.Meaning.{kind_number};
 ghost use Rattle.cells.specs.Cells.{listed, Only};
-ghost use Rattle.tally.specs.Layout.{slot_in_range, votes_size};
+ghost use Rattle.tally.specs.Layout.{slot_place, row_of, slot_in_range, votes_size};
 ghost use Rattle.tally.specs.Votes.{heard_at, voted, Votes, Holds};
 
-use super::rows::{heard_at, quorum_in, row};
+use super::rows::{count_in, heard, quorum_in};
 use cells::put_value;
 use limits::Limits;
 use values::Value;
+use wire::Kind;
 
-// What a member voted for in a slot.
-pub(crate) fn heard_from(
-    votes: &[u64],
-    limits: Limits,
-    kind: u64,
-    period: u64,
-    step: u64,
-    from: u64,
-) -> Option<Value>
-    requires votes { length votes.now ≡ votes_size (limits_of all limits) }
-    requires slot { slot_in_range (limits_of all limits) kind period step ≡ true }
-    requires from { from < limits.members }
-    ensures is { (vs : Votes) → Holds (limits_of all limits) votes.now vs →
-        listed result ≡ voted kind period step from vs }
-{
-    heard_at(votes, row(limits, kind, period, step) + from)
+// In range for the limits it came with, by type: so nobody has to look again.
+#[derive(Clone, Copy)]
+pub(crate) struct Slot {
+    pub(crate) limits: Limits,
+    pub(crate) kind: Kind,
+    pub(crate) period: u64,
+    pub(crate) step: u64,
+    ghost in_range: { slot_in_range (limits_of all limits) (kind_number kind) period step ≡ true },
 }
 
-// Is a quorum of a slot for this value?
-pub(crate) fn quorum_for(
-    votes: &[u64],
-    limits: Limits,
-    kind: u64,
-    period: u64,
-    step: u64,
-    value: Value,
-) -> bool
-    requires votes { length votes.now ≡ votes_size (limits_of all limits) }
-    requires slot { slot_in_range (limits_of all limits) kind period step ≡ true }
-    ensures is { (vs : Votes) → Holds (limits_of all limits) votes.now vs →
-        result ≡ has_quorum (limits_of all limits) kind period step (number_of value.limbs) vs }
-{
-    quorum_in(votes, limits, row(limits, kind, period, step), value)
+impl Slot {
+    // Which of its period's slots it is.
+    fn place(self) -> u64
+        ensures is { result ≡ slot_place (limits_of all self.limits) (kind_number self.kind) self.step }
+    {
+        match self.kind {
+            Kind::Soft => 0,
+            Kind::Cert => 1,
+            Kind::Next => self.step,
+            Kind::NextNone => self.step + self.limits.steps,
+        }
+    }
+
+    // Its first entry.
+    pub(crate) fn first(self) -> u64
+        ensures is { result ≡ row_of (limits_of all self.limits) (kind_number self.kind) self.period self.step }
+        ensures within { 8 * (result + self.limits.members) ≤ votes_size (limits_of all self.limits) }
+    {
+        let slots = 2 * self.limits.steps + 2;
+        ((self.period - 1) * slots + self.place()) * self.limits.members
+    }
+
+    // Its row: an entry for each member.
+    pub(crate) fn row(self, votes: &[u64]) -> &[[u64; 8]]
+        requires votes { length votes.now ≡ votes_size (limits_of all self.limits) }
+        ensures long { length result.now ≡ self.limits.members }
+        ensures entries { (i : ℕ) → i < self.limits.members → heard_at (slice_index_or result.now i []) 0
+            ≡ heard_at votes.now (row_of (limits_of all self.limits) (kind_number self.kind) self.period self.step + i) }
+    {
+        let (entries, _) = votes.as_chunks::<8>();
+        let first = self.first() as usize;
+        &entries[first..first + self.limits.members as usize]
+    }
+
+    // What a member voted for in it.
+    pub(crate) fn heard_from(self, votes: &[u64], from: u64) -> Option<Value>
+        requires votes { length votes.now ≡ votes_size (limits_of all self.limits) }
+        requires from { from < self.limits.members }
+        ensures is { (vs : Votes) → Holds (limits_of all self.limits) votes.now vs →
+            listed result ≡ voted (kind_number self.kind) self.period self.step from vs }
+    {
+        heard(&self.row(votes)[from as usize])
+    }
+
+    // How many members voted for this value in it.
+    pub(crate) fn count_for(self, votes: &[u64], value: Value) -> u64
+        requires votes { length votes.now ≡ votes_size (limits_of all self.limits) }
+        ensures is { (vs : Votes) → Holds (limits_of all self.limits) votes.now vs →
+            result ≡ count (kind_number self.kind) self.period self.step (number_of value.limbs) vs }
+    {
+        count_in(self.row(votes), value)
+    }
+
+    // Is a quorum of it for this value?
+    pub(crate) fn quorum_for(self, votes: &[u64], value: Value) -> bool
+        requires votes { length votes.now ≡ votes_size (limits_of all self.limits) }
+        ensures is { (vs : Votes) → Holds (limits_of all self.limits) votes.now vs → result
+            ≡ has_quorum (limits_of all self.limits) (kind_number self.kind) self.period self.step (number_of value.limbs) vs }
+    {
+        quorum_in(self.row(votes), self.limits, value)
+    }
 }
 
 // Writes what was heard at an entry.
