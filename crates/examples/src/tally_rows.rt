@@ -9,7 +9,7 @@ ghost use Rattle.wire.specs.Meaning.{vote_of};
 use limits::Limits;
 use std::process::Abort;
 use std::test::Fail;
-use tally::{ValidVote, chosen, clear, has_quorum, hear, taken, votes_size};
+use tally::{HeardVotes, ValidVote, clear, votes_size};
 use values::Value;
 use wire::{Kind, Vote};
 
@@ -46,7 +46,11 @@ fn vote_all(votes: &mut [u64], limits: Limits, first: u64, last: u64)
     clear(votes);
     for from in 0..limits.members {
         let number = if first <= from && from < last { 1 } else { 2 };
-        hear(votes, limits, soft(limits, number, from));
+        ValidVote {
+            limits,
+            vote: soft(limits, number, from),
+        }
+        .hear(votes);
     }
 }
 
@@ -69,9 +73,13 @@ fn check_quorum(
         count(votes, limits, soft(limits, 2, 0)),
         limits.members - (last - first)
     );
-    assert_eq!(rt; has_quorum(votes, limits, soft(limits, 1, 0)), yes);
+    let vote = ValidVote {
+        limits,
+        vote: soft(limits, 1, 0),
+    };
+    assert_eq!(rt; vote.has_quorum(votes), yes);
     let blocks = [5, 0, 0, 1];
-    let Some(found) = chosen(votes, limits, 1, &blocks, 1) else {
+    let Some(found) = HeardVotes { limits, votes }.chosen(1, &blocks, 1) else {
         assert!(rt; !yes);
         return Ok(());
     };
@@ -147,9 +155,12 @@ fn hear_all(rt: &impl Abort, votes: &mut [u64], limits: Limits)
     for period in 0..limits.periods {
         for place in 0..18 {
             for from in 0..limits.members {
-                let vote = at_place(limits, period + 1, place, from);
-                assert!(rt; !taken(votes, limits, vote));
-                hear(votes, limits, vote);
+                let vote = ValidVote {
+                    limits,
+                    vote: at_place(limits, period + 1, place, from),
+                };
+                assert!(rt; !vote.taken(votes));
+                vote.hear(votes);
             }
         }
     }
