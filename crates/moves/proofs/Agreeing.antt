@@ -1,6 +1,6 @@
 -- When a member agrees, by one vote or one block.
 use Rattle.std.proofs.Common.{◌≡◌, ℕ, Bool, true, false, cond, ◌&&◌, eqb, List, [], ◌∷◌, is_some as option_is_some}
-use Rattle.std.proofs.Common.{Some, None, Option, refl, ap, ◌∙◌, ap₂, arith}
+use Rattle.std.proofs.Common.{Some, None, Option, sym, refl, ap, ◌∙◌, ap₂, arith}
 use Rattle.std.proofs.lemmas.Bool.{and_from, and_left, and_right, eq-eqb, ne_eqb, cond-true, cond-false}
 use Rattle.protocol.specs.Vote.{cert, Vote, Limits, has_quorum}
 use Rattle.protocol.specs.Member.{is_some, is_in, Member, vote_in_range, certified_in, agree_on, having_agreed}
@@ -16,6 +16,10 @@ pub listed_some : (o : Option Value) → is_some (listed o) ≡ option_is_some o
 unfolding is_some
 listed_some None = refl
 listed_some (Some v) = refl
+
+-- whether a member has agreed, by what the code has
+pub has_agreed : (o : Option Value) (xs : List ℕ) → listed o ≡ xs → is_some xs ≡ option_is_some o
+has_agreed o xs e = ap is_some (sym e) ∙ listed_some o
 
 module _ (l : Limits) (v : Vote) (m : Member) where
   abbrev certifies : Bool

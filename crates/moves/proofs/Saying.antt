@@ -1,5 +1,6 @@
 -- What a member says when time is up.
-use Rattle.std.proofs.Common.{◌≡◌, ℕ, suc, ◌≤◌, true, false, List, [], ◌∷◌, Some, None, Option, sym, ap, ◌∙◌, arith}
+use Rattle.std.proofs.Common.{◌≡◌, ℕ, suc, ◌≤◌, true, false, List, [], ◌∷◌, Some, None, Option, sym, refl, ap, ◌∙◌, arith}
+use Rattle.std.specs.Option.{unwrap_or}
 use Rattle.std.proofs.lemmas.Bool.{cond-true, cond-false}
 use Rattle.protocol.specs.Vote.{soft, next, next_none}
 use Rattle.protocol.specs.Member.{Member, own, silent, at_step, with_vote, soft_value, say_soft, next_vote}
@@ -36,13 +37,11 @@ module _ (m : Member) (s : ℕ) (o : Option Value) where
       ∙ cond-false m.free (own m next_none s 0) (own m next s (first_or_zero m.start)) free
       ∙ ap (λ (ys : List ℕ). own m next s (first_or_zero ys)) start
 
-pub first_of_some : (o : Option Value) (v : Value) → o ≡ Some v → first_or_zero (listed o) ≡ value_of v
+-- its starting value, or zero
+pub first_or : (o : Option Value) (z : Value) → value_of z ≡ 0 → first_or_zero (listed o) ≡ value_of (unwrap_or o z)
 unfolding first_or_zero
-first_of_some o v e = ap (λ (p : Option Value). first_or_zero (listed p)) e
-
-pub first_of_none : (o : Option Value) → o ≡ None → first_or_zero (listed o) ≡ 0
-unfolding first_or_zero
-first_of_none o e = ap (λ (p : Option Value). first_or_zero (listed p)) e
+first_or None z zero = sym zero
+first_or (Some v) z zero = refl
 
 -- the soft vote: none, or one
 pub soft-none : (m : Member) → soft_value m ≡ [] → say_soft (soft_value m) (silent (at_step 1 m)) ≡ silent (at_step 1 m)

@@ -7,39 +7,20 @@ ghost use Rattle.wire.specs.Meaning.{vote_of};
 ghost use Rattle.moves.specs.Stands.{lim, Stands};
 ghost use Rattle.moves.specs.Moves.{OfMember, Same, voted, InRange, agree_by, agree_each, agree_block};
 
-use super::parts::{is_certified, is_here, is_quorum};
+use super::parts::is_quorum;
 use super::state::Member;
+use tally::ValidVote;
 use values::Value;
 use wire::{Kind, Vote};
 
 impl Member {
-    pub(crate) fn having_agreed(self, value: Value) -> Member
+    pub(crate) fn having_agreed(mut self, value: Value) -> Member
         ensures is { (mem : List ℕ) (m : OfMember) → Stands self mem m →
             Stands result mem (having_agreed (value_of value) m) }
         ensures same { Same self result }
     {
-        let Member {
-            limits,
-            me,
-            period,
-            step,
-            start,
-            free,
-            certain,
-            blocks,
-            agreed: _,
-        } = self;
-        Member {
-            limits,
-            me,
-            period,
-            step,
-            start,
-            free,
-            certain,
-            blocks,
-            agreed: Some(value),
-        }
+        self.agreed = Some(value);
+        self
     }
 
     // Agrees on the value of a cert vote that has a quorum and whose block is here, if it has not agreed.
@@ -50,19 +31,15 @@ impl Member {
             Stands result memory.now (agree_by (lim self) (vote_of vote) m) }
         ensures same { Same self result }
     {
-        if self.agreed.is_some() {
-            return self;
+        let limits = self.limits;
+        if self.agreed.is_none()
+            && vote.kind == u64::from(Kind::Cert)
+            && is_quorum(memory, ValidVote { limits, vote })
+            && self.is_here(memory, vote.value)
+        {
+            return self.having_agreed(vote.value);
         }
-        if vote.kind != u64::from(Kind::Cert) {
-            return self;
-        }
-        if !is_quorum(memory, self.limits, vote) {
-            return self;
-        }
-        if !is_here(memory, self.limits, self.blocks, vote.value) {
-            return self;
-        }
-        self.having_agreed(vote.value)
+        self
     }
 
     // The same by a vote that it may have said.
@@ -86,12 +63,9 @@ impl Member {
             Stands result memory.now (agree_block (lim self) (value_of value) m) }
         ensures same { Same self result }
     {
-        if self.agreed.is_some() {
-            return self;
+        if self.agreed.is_none() && self.is_certified(memory, value) {
+            return self.having_agreed(value);
         }
-        if !is_certified(memory, self.limits, value) {
-            return self;
-        }
-        self.having_agreed(value)
+        self
     }
 }

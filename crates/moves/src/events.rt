@@ -11,8 +11,10 @@ ghost use Rattle.moves.specs.Stands.{lim, Stands};
 ghost use Rattle.moves.specs.Moves.{OfMember, Same, voted};
 ghost use Rattle.moves.specs.Events.{Ready, Did, KeptParts};
 
-use super::parts::{hear_vote, keep_proposal, put_block};
-use super::state::Member;
+use super::parts::{hear_vote, keep_proposal};
+use super::state::{Member, WithTime};
+use cells::ValidProposal;
+use tally::ValidVote;
 use values::Value;
 use wire::{Proposal, Said, Vote};
 
@@ -20,15 +22,11 @@ use wire::{Proposal, Said, Vote};
 fn said(first: Option<Vote>, second: Option<Vote>) -> Said
     ensures is { said_of result ≡ voted first ++ voted second }
 {
-    match first {
-        None => match second {
-            None => Said::Nothing,
-            Some(vote) => Said::One(vote),
-        },
-        Some(vote) => match second {
-            None => Said::One(vote),
-            Some(other) => Said::Two(vote, other),
-        },
+    match (first, second) {
+        (None, None) => Said::Nothing,
+        (Some(vote), None) => Said::One(vote),
+        (None, Some(vote)) => Said::One(vote),
+        (Some(vote), Some(other)) => Said::Two(vote, other),
     }
 }
 
@@ -43,7 +41,8 @@ impl Member {
         ensures only { KeptParts (lim self) memory.old memory.new }
         ensures same { Same self result.0 }
     {
-        hear_vote(memory, self.limits, vote);
+        let limits = self.limits;
+        hear_vote(memory, ValidVote { limits, vote });
         let after = self.onward(memory, vote);
         let (member, cert) = after.certainly(memory);
         let own = member.agree_by_own(memory, cert);
@@ -62,39 +61,20 @@ impl Member {
         ensures only { KeptParts (lim self) memory.old memory.new }
         ensures same { Same self result.0 }
     {
-        keep_proposal(memory, self.limits, proposal);
+        let limits = self.limits;
+        keep_proposal(memory, ValidProposal { limits, proposal });
         (self, Said::Nothing)
     }
 
-    fn with_blocks(self, blocks: u64) -> Member
+    fn with_blocks(mut self, blocks: u64) -> Member
         requires few { blocks ≤ self.limits.blocks }
         ensures is { (mem new xs : List ℕ) (m : OfMember) → Stands self mem m →
             OnlyIn of_blocks (lim self) mem new → blocks_in (part of_blocks (lim self) new) blocks ≡ xs →
             Stands result new (with_blocks xs m) }
         ensures same { Same self result }
     {
-        let Member {
-            limits,
-            me,
-            period,
-            step,
-            start,
-            free,
-            certain,
-            blocks: _,
-            agreed,
-        } = self;
-        Member {
-            limits,
-            me,
-            period,
-            step,
-            start,
-            free,
-            certain,
-            blocks,
-            agreed,
-        }
+        self.blocks = blocks;
+        self
     }
 
     // A block comes: then certain, agree. None, and nothing changes, if there is no room for it.
@@ -109,23 +89,24 @@ impl Member {
         ensures only { KeptParts (lim self) memory.old memory.new }
         ensures same { IfSome result (λ d. Same self d.0) }
     {
-        let count = put_block(memory, self.limits, self.blocks, value)?;
+        let count = self.put_block(memory, value)?;
         let after = self.with_blocks(count);
         let (member, cert) = after.certainly(memory);
         let own = member.agree_by_own(memory, cert);
         let agreed = own.agree_on_block(memory, value);
         Some((agreed, said(None, cert)))
     }
+}
 
+impl WithTime {
     // Time is up at step 0: its soft vote; then certain, agree.
     fn on_first(self, memory: &mut [u64]) -> (Member, Said)
-        requires long { memory_size (lim self) ≤ length memory.old }
-        requires few_periods { self.period ≤ self.limits.periods }
-        requires first { self.step ≡ 0 }
-        ensures is { (m : OfMember) → Stands self memory.old m → Ready (lim self) m →
-            Did result.0 memory.new (said_of result.1) (does (lim self) m timeout) }
-        ensures only { KeptParts (lim self) memory.old memory.new }
-        ensures same { Same self result.0 }
+        requires long { memory_size (lim self.member) ≤ length memory.old }
+        requires first { self.member.step ≡ 0 }
+        ensures is { (m : OfMember) → Stands self.member memory.old m → Ready (lim self.member) m →
+            Did result.0 memory.new (said_of result.1) (does (lim self.member) m timeout) }
+        ensures only { KeptParts (lim self.member) memory.old memory.new }
+        ensures same { Same self.member result.0 }
     {
         let (after, soft) = self.first_step(memory);
         let (member, cert) = after.certainly(memory);
@@ -135,31 +116,27 @@ impl Member {
 
     // Time is up at a later step: a vote to go on; then onward by it.
     fn on_later(self, memory: &mut [u64]) -> (Member, Said)
-        requires long { memory_size (lim self) ≤ length memory.old }
-        requires few_periods { self.period ≤ self.limits.periods }
-        requires some_step { 1 ≤ self.step }
-        requires few_steps { self.step ≤ self.limits.steps }
-        ensures is { (m : OfMember) → Stands self memory.old m → Ready (lim self) m →
-            Did result.0 memory.new (said_of result.1) (does (lim self) m timeout) }
-        ensures only { KeptParts (lim self) memory.old memory.new }
-        ensures same { Same self result.0 }
+        requires long { memory_size (lim self.member) ≤ length memory.old }
+        requires some_step { 1 ≤ self.member.step }
+        ensures is { (m : OfMember) → Stands self.member memory.old m → Ready (lim self.member) m →
+            Did result.0 memory.new (said_of result.1) (does (lim self.member) m timeout) }
+        ensures only { KeptParts (lim self.member) memory.old memory.new }
+        ensures same { Same self.member result.0 }
     {
         let (after, vote) = self.later_step(memory);
         let member = after.onward(memory, vote);
         (member, Said::One(vote))
     }
 
-    // Time is up, and there are steps and periods left.
+    // Time is up.
     pub fn on_timeout(self, memory: &mut [u64]) -> (Member, Said)
-        requires long { memory_size (lim self) ≤ length memory.old }
-        requires few_periods { self.period ≤ self.limits.periods }
-        requires few_steps { self.step ≤ self.limits.steps }
-        ensures is { (m : OfMember) → Stands self memory.old m → Ready (lim self) m →
-            Did result.0 memory.new (said_of result.1) (does (lim self) m timeout) }
-        ensures only { KeptParts (lim self) memory.old memory.new }
-        ensures same { Same self result.0 }
+        requires long { memory_size (lim self.member) ≤ length memory.old }
+        ensures is { (m : OfMember) → Stands self.member memory.old m → Ready (lim self.member) m →
+            Did result.0 memory.new (said_of result.1) (does (lim self.member) m timeout) }
+        ensures only { KeptParts (lim self.member) memory.old memory.new }
+        ensures same { Same self.member result.0 }
     {
-        if self.step == 0 {
+        if self.member.step == 0 {
             self.on_first(memory)
         } else {
             self.on_later(memory)

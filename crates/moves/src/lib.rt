@@ -9,4 +9,4 @@ mod state;
 mod timeouts;
 
 pub use parts::{is_heard, is_taken};
-pub use state::Member;
+pub use state::{Member, WithTime};

@@ -1,6 +1,6 @@
 // What a member does: each move takes it by value, with its memory, and hands it back.
-ghost use Rattle.std.specs.Prelude.{◌≡◌, ℕ, ◌+◌, ◌≤◌, true, List, length};
-ghost use Rattle.protocol.specs.Member.{vote_in_range, chosen, own, at_step, now_certain};
+ghost use Rattle.std.specs.Prelude.{◌≡◌, ℕ, ◌+◌, ◌≤◌, true, List, length, is_none};
+ghost use Rattle.protocol.specs.Member.{vote_in_range, own, now_certain};
 ghost use Rattle.protocol.specs.Member.{in_period, silent, onward, certainly};
 ghost use Rattle.protocol.specs.Programs.{memory_size};
 ghost use Rattle.values.specs.Values.{value_of};
@@ -10,103 +10,36 @@ ghost use Rattle.moves.specs.Parts.{OnlyIn, of_votes};
 ghost use Rattle.moves.specs.Stands.{lim, Stands};
 ghost use Rattle.moves.specs.Moves.{OfMember, Same, voted, InRange, own_vote, MayBeCertain, on_to};
 
-use super::parts::{chosen_of, hear_vote, is_quorum};
+use super::parts::{hear_vote, is_quorum};
 use super::state::Member;
+use tally::ValidVote;
 use values::Value;
 use wire::{Kind, Vote};
 
 impl Member {
-    // The same member at a step of its period.
-    pub(crate) fn at_step(self, step: u64) -> Member
-        requires few_periods { self.period ≤ self.limits.periods }
-        requires few_steps { step ≤ self.limits.steps + 1 }
-        ensures is { (mem : List ℕ) (m : OfMember) → Stands self mem m → Stands result mem (at_step step m) }
-        ensures step { result.step ≡ step }
-        ensures same { Same self result }
-    {
-        let Member {
-            limits,
-            me,
-            period,
-            step: _,
-            start,
-            free,
-            certain,
-            blocks,
-            agreed,
-        } = self;
-        Member {
-            limits,
-            me,
-            period,
-            step,
-            start,
-            free,
-            certain,
-            blocks,
-            agreed,
-        }
-    }
-
     // Certain in this period.
-    fn now_certain(self) -> Member
+    fn now_certain(mut self) -> Member
         ensures is { (mem : List ℕ) (m : OfMember) → Stands self mem m → Stands result mem (now_certain m) }
         ensures same { Same self result }
     {
-        let Member {
-            limits,
-            me,
-            period,
-            step,
-            start,
-            free,
-            certain: _,
-            blocks,
-            agreed,
-        } = self;
-        Member {
-            limits,
-            me,
-            period,
-            step,
-            start,
-            free,
-            certain: true,
-            blocks,
-            agreed,
-        }
+        self.certain = true;
+        self
     }
 
     // A period begins: with a value, or free.
-    fn in_period(self, period: u64, start: Option<Value>, free: bool) -> Member
+    fn in_period(mut self, period: u64, start: Option<Value>) -> Member
         requires some_period { 1 ≤ period }
         requires few_periods { period ≤ self.limits.periods + 1 }
         ensures is { (mem : List ℕ) (m : OfMember) → Stands self mem m →
-            Stands result mem (in_period period (listed start) free m) }
+            Stands result mem (in_period period (listed start) (is_none start) m) }
         ensures same { Same self result }
     {
-        let Member {
-            limits,
-            me,
-            period: _,
-            step: _,
-            start: _,
-            free: _,
-            certain: _,
-            blocks,
-            agreed,
-        } = self;
-        Member {
-            limits,
-            me,
-            period,
-            step: 0,
-            start,
-            free,
-            certain: false,
-            blocks,
-            agreed,
-        }
+        self.period = period;
+        self.step = 0;
+        self.start = start;
+        self.free = start.is_none();
+        self.certain = false;
+        self
     }
 
     // A vote of its own, in its period.
@@ -124,29 +57,19 @@ impl Member {
         }
     }
 
-    // The chosen value of its period.
-    pub(crate) fn chosen(self, memory: &[u64]) -> Option<Value>
-        requires long { memory_size (lim self) ≤ length memory.now }
-        ensures is { (m : OfMember) → Stands self memory.now m → listed result ≡ chosen (lim self) m }
-    {
-        chosen_of(memory, self.limits, self.period, self.blocks)
-    }
-
-    // Onward with this start, if the vote is of its period or a later one and has a quorum.
-    fn on_to(self, memory: &[u64], vote: Vote, start: Option<Value>, free: bool) -> Member
+    // Onward with this start, or free with none, if the vote is of its period or a later one and has a quorum.
+    fn on_to(self, memory: &[u64], vote: Vote, start: Option<Value>) -> Member
         requires long { memory_size (lim self) ≤ length memory.now }
         requires vote { vote_in_range (lim self) (vote_of vote) ≡ true }
         ensures is { (m : OfMember) → Stands self memory.now m →
-            Stands result memory.now (on_to (lim self) (vote_of vote) (listed start) free m) }
+            Stands result memory.now (on_to (lim self) (vote_of vote) (listed start) (is_none start) m) }
         ensures same { Same self result }
     {
-        if vote.period < self.period {
+        let limits = self.limits;
+        if vote.period < self.period || !is_quorum(memory, ValidVote { limits, vote }) {
             return self;
         }
-        if !is_quorum(memory, self.limits, vote) {
-            return self;
-        }
-        self.in_period(vote.period + 1, start, free)
+        self.in_period(vote.period + 1, start)
     }
 
     // Onward: after a vote to go on, of its period or a later one, that has a quorum.
@@ -162,8 +85,8 @@ impl Member {
         };
         match kind {
             Kind::Soft | Kind::Cert => self,
-            Kind::Next => self.on_to(memory, vote, Some(vote.value), false),
-            Kind::NextNone => self.on_to(memory, vote, None, true),
+            Kind::Next => self.on_to(memory, vote, Some(vote.value)),
+            Kind::NextNone => self.on_to(memory, vote, None),
         }
     }
 
@@ -183,8 +106,9 @@ impl Member {
         let Some(value) = self.chosen(memory) else {
             return (self, None);
         };
+        let limits = self.limits;
         let vote = self.own(Kind::Cert, 0, value);
-        hear_vote(memory, self.limits, vote);
+        hear_vote(memory, ValidVote { limits, vote });
         (self.now_certain(), Some(vote))
     }
 }

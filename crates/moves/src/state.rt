@@ -4,6 +4,8 @@ ghost use Rattle.std.specs.Prelude.{◌+◌, ◌-◌, ◌<◌, ◌≤◌};
 use limits::Limits;
 use values::Value;
 
+// Kept so: memory may hold a starting value and `free` in any combination, and looking at it promises each of them, so
+// they stay two fields; and `certain` is of no value.
 #[derive(Clone, Copy)]
 pub struct Member {
     pub limits: Limits,
@@ -24,4 +26,12 @@ pub struct Member {
     ghost few_periods: { period ≤ limits.periods + (1 - step) },
     ghost few_steps: { step ≤ limits.steps + 1 },
     ghost few_blocks: { blocks ≤ limits.blocks },
+}
+
+// A member that has steps and periods left: time may be up for it.
+#[derive(Clone, Copy)]
+pub struct WithTime {
+    pub member: Member,
+    ghost few_steps: { member.step ≤ member.limits.steps },
+    ghost few_periods: { member.period ≤ member.limits.periods },
 }

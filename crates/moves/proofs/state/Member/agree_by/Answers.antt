@@ -1,69 +1,42 @@
-use Rattle.std.proofs.Common.{◌≡◌, sym, refl, ap, ◌∙◌, subst}
+use Rattle.std.proofs.Common.{◌≡◌, not, sym, ap, ◌∙◌, subst}
 use Rattle.protocol.specs.Vote.{cert, Vote}
-use Rattle.protocol.specs.Member.{is_some, is_in}
 use Rattle.wire.specs.Meaning.{vote_of}
-use Rattle.moves.specs.Moves.{OfMember}
+use Rattle.moves.specs.Moves.{OfMember, agree_by}
 use Rattle.moves.specs.Stands.{lim, Stands}
 use Rattle.moves.specs.declared.state.Member.{Member}
-use Rattle.moves.proofs.Agreeing.{listed_some, by_agreed, by_another_kind, by_too_few, by_no_block, by_agrees}
-use Rattle.moves.proofs.Agreeing.{cert-quorum}
+use Rattle.moves.proofs.Agreeing.{has_agreed, by_agreed, by_another_kind, by_too_few, by_no_block}
+use Rattle.moves.proofs.Agreeing.{by_agrees, cert-quorum}
 use Rattle.moves.proofs.state.Member.agree_by.Goals as goal
+use Rattle.moves.proofs.state.Member.agree_by.Goals.{else-is_none-via-else-is_none, else-is_none-via-then-is_none+else-vote-number, else-is_none-via-then-is_none+then-vote-number+else-is_quorum, else-is_none-via-then-is_none+then-vote-number+then-is_quorum+else-is_here}
 
-pub returns-then-is_some : goal.returns-then-is_some
-returns-then-is_some c =
-    let x : Member = c.args.self in
-    record {
-      is = λ m h. subst (λ (y : OfMember). Stands x c.args.memory.now y)
-          (sym (by_agreed (lim x) (vote_of c.args.vote) m
-          (ap is_some (sym h.agreed) ∙ listed_some x.agreed ∙ sym c.is_some.ensures ∙ c.if-is_some.true))) h;
-      same = record { limits = refl; me = refl };
-    }
-
-pub returns-then-vote-number : goal.returns-then-vote-number
-returns-then-vote-number c =
-    let x : Member = c.args.self in
-    record {
-      is = λ m h. subst (λ (y : OfMember). Stands x c.args.memory.now y)
-          (sym (by_another_kind (lim x) (vote_of c.args.vote) m
-          (λ e. c.if-vote-number.true (e ∙ sym c.number.ensures.is)))) h;
-      same = record { limits = refl; me = refl };
-    }
-
-pub returns-then-not-is_quorum : goal.returns-then-not-is_quorum
-returns-then-not-is_quorum c =
+pub returns-then-is_here-clause-is : goal.returns-then-is_here-clause-is
+returns-then-is_here-clause-is c = λ m h.
     let x : Member = c.args.self in
     let v : Vote = vote_of c.args.vote in
-    let kind : v.kind ≡ cert = c.if-vote-number.false ∙ c.number.ensures.is in
-    record {
-      is = λ m h. subst (λ (y : OfMember). Stands x c.args.memory.now y)
-          (sym (by_too_few (lim x) v m (sym (cert-quorum (lim x) v m.votes c.requires.vote kind)
-          ∙ sym (c.is_quorum.ensures.is m.votes h.votes) ∙ c.if-not-is_quorum.true))) h;
-      same = record { limits = refl; me = refl };
-    }
+    let kind : v.kind ≡ cert = c.if-vote-number.true ∙ c.number.ensures.is in
+    subst (λ (y : OfMember). Stands c.having_agreed.result c.args.memory.now y)
+    (sym (by_agrees (lim x) v m
+    (has_agreed x.agreed m.agreed h.agreed ∙ c.is_none.ensures ∙ ap not c.if-is_none.true) kind
+    (sym (cert-quorum (lim x) v m.votes c.requires.vote kind)
+    ∙ sym (c.is_quorum.ensures.is m.votes h.votes) ∙ c.if-is_quorum.true)
+    (sym (c.is_here.ensures.is m h) ∙ c.if-is_here.true)))
+    (c.having_agreed.ensures.is c.args.memory.now m h)
 
-pub returns-then-not-is_here : goal.returns-then-not-is_here
-returns-then-not-is_here c =
+pub returns-clause-is : goal.returns-clause-is
+returns-clause-is c = λ m h.
     let x : Member = c.args.self in
     let v : Vote = vote_of c.args.vote in
-    record {
-      is = λ m h. subst (λ (y : OfMember). Stands x c.args.memory.now y)
-          (sym (by_no_block (lim x) v m
-          (ap (is_in v.value) (sym h.blocks) ∙ sym c.is_here.ensures.is ∙ c.if-not-is_here.true))) h;
-      same = record { limits = refl; me = refl };
-    }
-
-pub returns : goal.returns
-returns c =
-    let x : Member = c.args.self in
-    let v : Vote = vote_of c.args.vote in
-    let kind : v.kind ≡ cert = c.if-vote-number.false ∙ c.number.ensures.is in
-    record {
-      is = λ m h. subst (λ (y : OfMember). Stands c.having_agreed.result c.args.memory.now y)
-          (sym (by_agrees (lim x) v m
-          (ap is_some (sym h.agreed) ∙ listed_some x.agreed ∙ sym c.is_some.ensures ∙ c.if-is_some.false) kind
-          (sym (cert-quorum (lim x) v m.votes c.requires.vote kind)
-          ∙ sym (c.is_quorum.ensures.is m.votes h.votes) ∙ c.if-not-is_quorum.false)
-          (ap (is_in v.value) (sym h.blocks) ∙ sym c.is_here.ensures.is ∙ c.if-not-is_here.false)))
-          (c.having_agreed.ensures.is c.args.memory.now m h);
-      same = c.having_agreed.ensures.same;
-    }
+    let stays : agree_by (lim x) v m ≡ m = elim c.else-is_none.branch [
+      | else-is_none-via-then-is_none+then-vote-number+then-is_quorum+else-is_here w ↦
+          by_no_block (lim x) v m (sym (w.is_here.ensures.is m h) ∙ w.if-is_here.false)
+      | else-is_none-via-then-is_none+then-vote-number+else-is_quorum w ↦
+          by_too_few (lim x) v m
+          (sym (cert-quorum (lim x) v m.votes c.requires.vote (w.if-vote-number.true ∙ w.number.ensures.is))
+          ∙ sym (w.is_quorum.ensures.is m.votes h.votes) ∙ w.if-is_quorum.false)
+      | else-is_none-via-then-is_none+else-vote-number w ↦
+          by_another_kind (lim x) v m (λ e. w.if-vote-number.false (e ∙ sym w.number.ensures.is))
+      | else-is_none-via-else-is_none w ↦
+          by_agreed (lim x) v m
+          (has_agreed x.agreed m.agreed h.agreed ∙ c.is_none.ensures ∙ ap not w.if-is_none.false)
+    ] in
+    subst (λ (y : OfMember). Stands x c.args.memory.now y) (sym stays) h

@@ -7,11 +7,11 @@ use Rattle.moves.specs.Parts.{OnlyIn, of_votes, of_header, of_rest}
 use Rattle.moves.specs.Stands.{lim}
 use Rattle.moves.specs.declared.state.Member.{Member}
 use Rattle.moves.proofs.Coming.{vote_done}
-use Rattle.moves.proofs.Standing.{heard, same_twice, same_lim, same_only, only_twice}
+use Rattle.moves.proofs.Standing.{heard, same_twice, same_lim, same_only}
 use Rattle.moves.proofs.state.Member.on_vote.Goals as goal
 
-pub returns : goal.returns
-returns c =
+pub returns-clause-is : goal.returns-clause-is
+returns-clause-is c = λ m h ready free other.
     let x : Member = c.args.self in
     let y₁ : Member = c.onward-after.result in
     let y₂ : Member = c.certainly-cert.result.0 in
@@ -20,22 +20,24 @@ returns c =
     let s₁ : Same x y₁ = c.onward-after.ensures.same in
     let s₂ : Same x y₂ = same_twice x y₁ y₂ s₁ c.certainly-cert.ensures.same in
     let s₃ : Same x y₃ = same_twice x y₂ y₃ s₂ c.agree_by_own-own.ensures.same in
-    let mem : List ℕ = c.args.memory.now in
     let mid : List ℕ = c.hear_vote.new.memory in
     let new : List ℕ = c.certainly-cert.new.memory in
     let v : Vote = vote_of c.args.vote in
-    let only : OnlyIn of_votes (lim x) mem new =
-    only_twice of_votes (lim x) mem mid new c.hear_vote.ensures.only
-    (same_only x y₁ s₁ of_votes mid new c.certainly-cert.ensures.only) in
+    let done : Did y₄ new _ _ =
+    vote_done x y₁ y₂ y₃ y₄ (same_lim x y₁ s₁) (same_lim x y₂ s₂) (same_lim x y₃ s₃) mid new
+    c.certainly-cert.result.1 v
+    c.onward-after.ensures.is c.certainly-cert.ensures.is c.agree_by_own-own.ensures.is
+    c.agree_by-agreed.ensures.is m ready other
+    (heard x c.args.memory.now mid m h v (c.hear_vote.ensures.is m.votes h.votes free) c.hear_vote.ensures.only) in
+    record { stands = done.stands; out = c.said.ensures.is ∙ done.out }
+
+pub returns-clause-only : goal.returns-clause-only
+returns-clause-only c =
+    let x : Member = c.args.self in
+    let new : List ℕ = c.certainly-cert.new.memory in
+    let then : OnlyIn of_votes (lim x) c.hear_vote.new.memory new =
+    same_only x c.onward-after.result c.onward-after.ensures.same of_votes _ new c.certainly-cert.ensures.only in
     record {
-      is = λ m h ready free other.
-          let done : Did y₄ new _ _ =
-          vote_done x y₁ y₂ y₃ y₄ (same_lim x y₁ s₁) (same_lim x y₂ s₂) (same_lim x y₃ s₃) mid new
-          c.certainly-cert.result.1 v
-          c.onward-after.ensures.is c.certainly-cert.ensures.is c.agree_by_own-own.ensures.is
-          c.agree_by-agreed.ensures.is m ready other
-          (heard x mem mid m h v (c.hear_vote.ensures.is m.votes h.votes free) c.hear_vote.ensures.only) in
-          record { stands = done.stands; out = c.said.ensures.is ∙ done.out };
-      only = record { header = only of_header refl; rest = only of_rest refl };
-      same = same_twice x y₃ y₄ s₃ c.agree_by-agreed.ensures.same;
+      header = then of_header refl ∙ c.hear_vote.ensures.only of_header refl;
+      rest = then of_rest refl ∙ c.hear_vote.ensures.only of_rest refl;
     }

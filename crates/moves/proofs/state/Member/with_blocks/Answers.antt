@@ -6,21 +6,18 @@ use Rattle.tally.specs.Votes.{Holds}
 use Rattle.cells.specs.Proposals.{Proposes}
 use Rattle.moves.proofs.state.Member.with_blocks.Goals as goal
 
-pub returns : goal.returns
-returns c =
+pub returns-clause-is : goal.returns-clause-is
+returns-clause-is c = λ mem new xs m h only here.
     let l : Limits = lim c.args.self in
     record {
-      is = λ mem new xs m h only here. record {
-        me = h.me;
-        period = h.period;
-        step = h.step;
-        start = h.start;
-        free = h.free;
-        certain = h.certain;
-        agreed = h.agreed;
-        votes = subst (λ (ys : List ℕ). Holds l ys m.votes) (sym (only of_votes refl)) h.votes;
-        proposals = subst (λ (ys : List ℕ). Proposes l ys m.proposals) (sym (only of_proposals refl)) h.proposals;
-        blocks = here;
-      };
-      same = record { limits = refl; me = refl };
+      me = h.me;
+      period = h.period;
+      step = h.step;
+      start = h.start;
+      free = h.free;
+      certain = h.certain;
+      agreed = h.agreed;
+      votes = subst (λ (ys : List ℕ). Holds l ys m.votes) (sym (only of_votes refl)) h.votes;
+      proposals = subst (λ (ys : List ℕ). Proposes l ys m.proposals) (sym (only of_proposals refl)) h.proposals;
+      blocks = here;
     }
