@@ -61,10 +61,9 @@ fn answer_block(member: Member, memory: &mut [u64], value: Value) -> Answer
         Stands member memory.old m → Ready (lim member) m →
         Answered member memory.old memory.new m (got_block (value_of value)) result }
 {
-    let Some(done) = member.on_block(memory, value) else {
+    let Some((after, said)) = member.on_block(memory, value) else {
         return Answer::Refused(Refusal::NoMoreBlocks, 0);
     };
-    let (after, said) = done;
     says(after, memory, said)
 }
 

@@ -1,7 +1,12 @@
 // Why a member is not opened, and that none is.
-use limits::Limit;
+ghost use Rattle.std.specs.Prelude.{Some};
+ghost use Rattle.member.specs.Shown.{open_error_text, not_open_text};
 
-#[derive(Clone, Copy, Drop)]
+use limits::Limit;
+use std::error::Error;
+use std::fmt;
+
+#[derive(Clone, Copy, PartialEq, Eq, Debug)]
 pub enum OpenError {
     // the first limit that is out of range
     OutOfRange(Limit),
@@ -11,6 +16,33 @@ pub enum OpenError {
     TooShort(u64),
 }
 
+impl fmt::Display for OpenError {
+    ghost output = { λ x. Some (open_error_text x) };
+
+    fn fmt<W: fmt::Write>(&self, f: &mut fmt::Formatter<W>) -> fmt::Result {
+        match *self {
+            OpenError::OutOfRange(limit) => {
+                let most = limit.most();
+                write!(f, "{limit} is not 1 to {most}")
+            }
+            OpenError::NotMember => write!(f, "ME is not below MEMBERS"),
+            OpenError::TooShort(_) => write!(f, "the memory is too short"),
+        }
+    }
+}
+
+impl Error for OpenError {}
+
 // The memory holds no member.
-#[derive(Clone, Copy, Drop)]
+#[derive(Clone, Copy, PartialEq, Eq, Debug)]
 pub struct NotOpen;
+
+impl fmt::Display for NotOpen {
+    ghost output = { λ _. Some not_open_text };
+
+    fn fmt<W: fmt::Write>(&self, f: &mut fmt::Formatter<W>) -> fmt::Result {
+        write!(f, "the memory holds no member")
+    }
+}
+
+impl Error for NotOpen {}

@@ -11,7 +11,7 @@ ghost use Rattle.moves.specs.Moves.{OfMember};
 
 use cells::ValidProposal;
 use limits::Limits;
-use moves::{Member, is_taken};
+use moves::{Member, WithTime, is_taken};
 use tally::ValidVote;
 use wire::{Event, Vote};
 
@@ -31,10 +31,7 @@ pub(crate) fn in_range(member: Member, event: Event) -> Option<Event>
     ensures is { MatchOption result (in_range (lim member) (event_of event) ≡ false)
         (λ e. (e ≡ event) × (in_range (lim member) (event_of event) ≡ true)) }
 {
-    if event_in_range(member.limits, event) {
-        return Some(event);
-    }
-    None
+    event_in_range(member.limits, event).then_some(event)
 }
 
 // 3: an event that comes before the member agreed.
@@ -43,10 +40,7 @@ pub(crate) fn undecided(member: Member, event: Event) -> Option<Event>
         MatchOption result (is_some m.agreed ≡ true) (λ _. m.agreed ≡ []) }
     ensures same { IfSome result (λ e. e ≡ event) }
 {
-    match member.agreed {
-        Some(_) => None,
-        None => Some(event),
-    }
+    member.agreed.is_none().then_some(event)
 }
 
 // 4: a vote of another member, in a slot that is free.
@@ -58,26 +52,21 @@ pub(crate) fn unheard(member: Member, memory: &[u64], vote: Vote) -> Option<Vote
         (λ _. (slot_taken (vote_of vote) m.votes ≡ false) × (vote.from ≢ m.me)) }
     ensures same { IfSome result (λ v. v ≡ vote) }
 {
-    if is_taken(memory, member.limits, vote) {
-        return None;
-    }
-    if vote.from == member.me {
+    let limits = member.limits;
+    if is_taken(memory, ValidVote { limits, vote }) || vote.from == member.me {
         return None;
     }
     Some(vote)
 }
 
 // 5: a member that has steps and periods left.
-pub(crate) fn with_time(member: Member) -> Option<Member>
+pub(crate) fn with_time(member: Member) -> Option<WithTime>
     ensures is { MatchOption result
         ((member.step ≤ member.limits.steps) × (member.period ≤ member.limits.periods) → ⊥)
-        (λ x. (x ≡ member) × ((member.step ≤ member.limits.steps) × (member.period ≤ member.limits.periods))) }
+        (λ x. x.member ≡ member) }
 {
-    if member.step > member.limits.steps {
+    if member.step > member.limits.steps || member.period > member.limits.periods {
         return None;
     }
-    if member.period > member.limits.periods {
-        return None;
-    }
-    Some(member)
+    Some(WithTime { member })
 }

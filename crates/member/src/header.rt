@@ -13,14 +13,41 @@ use values::Value;
 
 const MARK: u64 = 0x6d75_6c65_6667_654b;
 
+// Where the header's numbers lie: behind the mark the limits and the own number, then where the member stands, and two
+// values that may be missing.
+const MEMBERS: usize = 1;
+
+const PERIODS: usize = 2;
+
+const STEPS: usize = 3;
+
+const BLOCKS: usize = 4;
+
+const ME: usize = 5;
+
+const PERIOD: usize = 6;
+
+const STEP: usize = 7;
+
+const FREE: usize = 8;
+
+const CERTAIN: usize = 9;
+
+const BLOCKS_HERE: usize = 10;
+
+const START: usize = 11;
+
+const AGREED: usize = 16;
+
 fn option_at(memory: &[u64], at: usize) -> Option<Value>
     requires within { at + 5 ≤ length memory.now }
     ensures is { listed result ≡ option_at memory.now at }
 {
     if memory[at] == 0 {
-        return None;
+        None
+    } else {
+        Some(value_at(memory, at + 1))
     }
-    Some(value_at(memory, at + 1))
 }
 
 fn put_option(memory: &mut [u64], at: usize, option: Option<Value>)
@@ -42,15 +69,16 @@ fn limits_in(memory: &[u64]) -> Option<Limits>
     ensures is { MatchOption result ((l : Limits) → Asks memory.now l → ⊥)
         (λ l. Asks memory.now l) }
 {
-    if memory.len() < 64 {
+    if memory.len() < 64 || memory[0] != MARK {
         return None;
     }
-    if memory[0] != MARK {
-        return None;
-    }
-    let Ok(limits) = Limits::new(memory[1], memory[2], memory[3], memory[4]) else {
-        return None;
-    };
+    let limits = Limits::new(
+        memory[MEMBERS],
+        memory[PERIODS],
+        memory[STEPS],
+        memory[BLOCKS],
+    )
+    .ok()?;
     if memory.len() < limits.memory() as usize {
         return None;
     }
@@ -63,30 +91,26 @@ pub(crate) fn load(memory: &[u64]) -> Option<Member>
         (λ x. Header memory.now x) }
 {
     let limits = limits_in(memory)?;
-    let me = memory[5];
-    let period = memory[6];
-    let step = memory[7];
-    let blocks = memory[10];
+    let me = memory[ME];
+    let period = memory[PERIOD];
+    let step = memory[STEP];
+    let blocks = memory[BLOCKS_HERE];
     if me >= limits.members || step > limits.steps + 1 || blocks > limits.blocks {
         return None;
     }
     if period < 1 || period > limits.periods + 1_u64.saturating_sub(step) {
         return None;
     }
-    let free = memory[8] != 0;
-    let certain = memory[9] != 0;
-    let start = option_at(memory, 11);
-    let agreed = option_at(memory, 16);
     Some(Member {
         limits,
         me,
         period,
         step,
-        start,
-        free,
-        certain,
+        start: option_at(memory, START),
+        free: memory[FREE] != 0,
+        certain: memory[CERTAIN] != 0,
         blocks,
-        agreed,
+        agreed: option_at(memory, AGREED),
     })
 }
 
@@ -95,13 +119,11 @@ fn put_place(memory: &mut [u64], member: Member)
     ensures is { Place memory.new member }
     ensures only { Only 6 11 memory.old memory.new }
 {
-    let free = u64::from(member.free);
-    let certain = u64::from(member.certain);
-    memory[6] = member.period;
-    memory[7] = member.step;
-    memory[8] = free;
-    memory[9] = certain;
-    memory[10] = member.blocks;
+    memory[PERIOD] = member.period;
+    memory[STEP] = member.step;
+    memory[FREE] = u64::from(member.free);
+    memory[CERTAIN] = u64::from(member.certain);
+    memory[BLOCKS_HERE] = member.blocks;
 }
 
 // Writes where a member stands, behind the mark, its limits and its number.
@@ -112,8 +134,8 @@ pub(crate) fn store(memory: &mut [u64], member: Member)
     ensures only { Only 0 64 memory.old memory.new }
 {
     put_place(memory, member);
-    put_option(memory, 11, member.start);
-    put_option(memory, 16, member.agreed);
+    put_option(memory, START, member.start);
+    put_option(memory, AGREED, member.agreed);
 }
 
 // Writes the mark and the limits.
@@ -123,10 +145,10 @@ fn put_limits(memory: &mut [u64], limits: Limits)
     ensures only { Only 0 5 memory.old memory.new }
 {
     memory[0] = MARK;
-    memory[1] = limits.members;
-    memory[2] = limits.periods;
-    memory[3] = limits.steps;
-    memory[4] = limits.blocks;
+    memory[MEMBERS] = limits.members;
+    memory[PERIODS] = limits.periods;
+    memory[STEPS] = limits.steps;
+    memory[BLOCKS] = limits.blocks;
 }
 
 // Writes the header of a member that is opened.
@@ -136,6 +158,6 @@ pub(crate) fn mark(memory: &mut [u64], member: Member)
     ensures only { Only 0 64 memory.old memory.new }
 {
     put_limits(memory, member.limits);
-    memory[5] = member.me;
+    memory[ME] = member.me;
     store(memory, member);
 }

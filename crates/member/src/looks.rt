@@ -1,5 +1,5 @@
 // Looking at the member that memory holds.
-ghost use Rattle.std.specs.Prelude.{◌≡◌, ◌≤◌, length, IfSome, IfOk, MatchOption};
+ghost use Rattle.std.specs.Prelude.{◌≡◌, ◌≤◌, length, IfSome, IfOk, MatchOption, MatchResult};
 ghost use Rattle.protocol.specs.Programs.{memory_size};
 ghost use Rattle.wire.specs.Meaning.{vote_of};
 ghost use Rattle.member.specs.Calls.{IsOpen, IsNotOpen, Looks, SaidIt, BySaid};
@@ -22,6 +22,13 @@ pub fn look(memory: &[u64]) -> Option<Member>
     load(memory)
 }
 
+// The member that this memory holds, or that it holds none.
+pub(crate) fn opened(memory: &[u64]) -> Result<Member, NotOpen>
+    ensures is { MatchResult result (λ x. Header memory.now x) (λ _. IsNotOpen memory.now) }
+{
+    load(memory).ok_or(NotOpen)
+}
+
 fn has_said(member: Member, memory: &[u64], vote: Vote) -> bool
     requires long { memory_size (lim member) ≤ length memory.now }
     ensures is { (m : OfMember) → Stands member memory.now m → result ≡ SaidIt (vote_of vote) m }
@@ -32,7 +39,7 @@ fn has_said(member: Member, memory: &[u64], vote: Vote) -> bool
     let Some(valid) = ValidVote::new(member.limits, vote) else {
         return false;
     };
-    is_heard(memory, member.limits, valid.vote)
+    is_heard(memory, valid)
 }
 
 // Did the member in this memory say this vote?
@@ -40,8 +47,6 @@ pub fn said(memory: &[u64], vote: Vote) -> Result<bool, NotOpen>
     ensures is { BySaid memory.now (vote_of vote) result }
     ensures held { IfOk result (λ _. IsOpen memory.now) }
 {
-    let Some(member) = load(memory) else {
-        return Err(NotOpen);
-    };
+    let member = opened(memory)?;
     Ok(has_said(member, memory, vote))
 }

@@ -12,7 +12,8 @@ ghost use Rattle.moves.specs.Parts.{part, of_rest, Blank};
 
 use super::answers::answer_to;
 use super::calls::{NotOpen, OpenError};
-use super::header::{load, mark};
+use super::header::mark;
+use super::looks::opened;
 use cells::clear;
 use limits::Limits;
 use moves::Member;
@@ -24,7 +25,7 @@ fn blank(memory: &mut [u64], limits: Limits)
     ensures is { Blank (limits_of all limits) memory.old memory.new }
 {
     let size = limits.memory() as usize;
-    clear(&mut memory[0..size]);
+    clear(&mut memory[..size]);
 }
 
 // Writes a new member.
@@ -61,10 +62,7 @@ pub fn open(
 ) -> Result<(), OpenError>
     ensures is { ByOpen members periods steps blocks me memory.old memory.new result }
 {
-    let limits = match Limits::new(members, periods, steps, blocks) {
-        Ok(limits) => limits,
-        Err(limit) => return Err(OpenError::OutOfRange(limit)),
-    };
+    let limits = Limits::new(members, periods, steps, blocks).map_err(OpenError::OutOfRange)?;
     if me >= limits.members {
         return Err(OpenError::NotMember);
     }
@@ -81,9 +79,7 @@ pub fn take(memory: &mut [u64], event: Event) -> Result<Answer, NotOpen>
     ensures is { ByCall memory.old (event_of event) memory.new result }
     ensures held { IfOk result (λ _. IsOpen memory.old) }
 {
-    let Some(member) = load(memory) else {
-        return Err(NotOpen);
-    };
+    let member = opened(memory)?;
     Ok(answer_to(member, memory, event))
 }
 
@@ -92,9 +88,7 @@ pub fn call(memory: &mut [u64], bytes: &[u8]) -> Result<Answer, NotOpen>
     ensures is { ByCall memory.old (event_in bytes.now) memory.new result }
     ensures held { IfOk result (λ _. IsOpen memory.old) }
 {
-    let Some(member) = load(memory) else {
-        return Err(NotOpen);
-    };
+    let member = opened(memory)?;
     match read_event(bytes) {
         Ok(event) => Ok(answer_to(member, memory, event)),
         Err(place) => Ok(Answer::Refused(Refusal::NoEvent, place as u64)),

@@ -39,7 +39,7 @@ returns-in_default c =
 pub returns : goal.returns
 returns c =
     let x : Member = c.args.member in
-    let y : Member = c.in-Some.done.0 in
+    let y : Member = c.in-Some.after in
     let v : Value = c.args.value in
     let mid : List ℕ = c.on_block.new.memory in
     let room = c.in-Some.ensures.is in

@@ -5,6 +5,6 @@ use Rattle.member.proofs.looks.said.Goals as goal
 pub returns : goal.returns
 returns c = record {
   is = λ l i es k. c.has_said.ensures.is (member_after l i es)
-      (looks c.args.memory.now c.in-Some.member c.in-Some.ensures.is l i es k);
-  held = (c.in-Some.member, c.in-Some.ensures.is);
+      (looks c.args.memory.now c.in_ok-member.member c.in_ok-member.ensures.is l i es k);
+  held = (c.in_ok-member.member, c.in_ok-member.ensures.is);
 }

@@ -12,9 +12,9 @@ returns-in-Ok c =
     let new : List ℕ = c.answer_to.new.memory in
     record {
       is = subst (λ (e : Event). Called mem e new (answer_of c.answer_to.result)) c.in-Ok.ensures.is
-          (called mem new c.in-Some.member (event_of c.in-Ok.event) c.answer_to.result c.in-Some.ensures.is
+          (called mem new c.in_ok-member.member (event_of c.in-Ok.event) c.answer_to.result c.in_ok-member.ensures.is
           c.answer_to.ensures.is (omega arith) (words_by_places new (λ i. (c.type_inv.memory i).fits)));
-      held = (c.in-Some.member, c.in-Some.ensures.is);
+      held = (c.in_ok-member.member, c.in_ok-member.ensures.is);
     }
 
 pub returns-in-Err : goal.returns-in-Err
@@ -23,5 +23,5 @@ returns-in-Err c =
     record {
       is = subst (λ (e : Event). Called mem e mem (refused 1 c.in-Err.place)) c.in-Err.ensures.is
           (called-unreadable mem c.in-Err.place);
-      held = (c.in-Some.member, c.in-Some.ensures.is);
+      held = (c.in_ok-member.member, c.in_ok-member.ensures.is);
     }

@@ -9,7 +9,7 @@ returns c =
     let mem : List ℕ = c.args.memory.now in
     let new : List ℕ = c.answer_to.new.memory in
     record {
-      is = called mem new c.in-Some.member (event_of c.args.event) c.answer_to.result c.in-Some.ensures.is
+      is = called mem new c.in_ok-member.member (event_of c.args.event) c.answer_to.result c.in_ok-member.ensures.is
           c.answer_to.ensures.is (omega arith) (words_by_places new (λ i. (c.type_inv.memory i).fits));
-      held = (c.in-Some.member, c.in-Some.ensures.is);
+      held = (c.in_ok-member.member, c.in_ok-member.ensures.is);
     }
