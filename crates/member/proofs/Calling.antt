@@ -1,6 +1,6 @@
 -- A call of the member that memory holds, whatever events it holds.
-use Rattle.std.proofs.Common.{◌≡◌, ℕ, ◌<◌, true, List, ◌∷◌, length, IfSome, Some, None, Option, sym, refl, ap, ◌∙◌}
-use Rattle.std.proofs.Common.{subst, MatchOption}
+use Rattle.std.proofs.Common.{◌≡◌, ℕ, ◌<◌, true, List, ◌∷◌, length, sym, refl, ap, ◌∙◌}
+use Rattle.std.proofs.Common.{subst}
 use Rattle.protocol.specs.Vote.{Limits}
 use Rattle.protocol.specs.Member.{Member, Event, unreadable, refused, is_event, place, refusal, answer, after}
 use Rattle.protocol.specs.Programs.{member_after, all_words}
@@ -13,7 +13,7 @@ use Rattle.cells.specs.Blocks.{blocks_in}
 use Rattle.wire.specs.declared.answers.Answer as code-answer
 use Rattle.wire.specs.Meaning.{answer_of}
 use Rattle.member.specs.Answered.{Carries, Answered}
-use Rattle.member.specs.Calls.{taking_all, Kept, Called, IsNotOpen, Looks}
+use Rattle.member.specs.Calls.{taking_all, Kept, Called, Looks}
 use Rattle.moves.specs.Events.{Lone}
 use Rattle.member.specs.Header.{Header}
 use Rattle.moves.specs.Parts.{part, of_votes, of_proposals, of_blocks, of_rest}
@@ -138,13 +138,3 @@ called-unreadable mem n = record {
 -- what is seen of it
 pub looks : (mem : List ℕ) (x : code.Member) → Header mem x → Looks mem x
 looks mem x hx l i es k = loaded mem x k.carries.member hx k.carries.header (member_after l i es) k.carries.stands
-
-pub looks_at : (mem : List ℕ) (o : Option code.Member) → MatchOption o (IsNotOpen mem) (λ x. Header mem x) →
-    MatchOption o (IsNotOpen mem) (λ x. Looks mem x)
-looks_at mem None h = h
-looks_at mem (Some x) h = looks mem x h
-
-pub header_in : (mem : List ℕ) (o : Option code.Member) → MatchOption o (IsNotOpen mem) (λ x. Header mem x) →
-    IfSome o (λ x. Header mem x)
-header_in mem None h = tt
-header_in mem (Some x) h = h

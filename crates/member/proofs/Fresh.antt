@@ -1,9 +1,8 @@
 -- A memory of zeros, and the header of a new member.
-use Rattle.std.proofs.Common.{◌≡◌, ℕ, suc, ◌+◌, ◌-◌, ◌<◌, ◌≤◌, true, List, [], ◌∷◌, ◌++◌, length, get_or, take, drop}
+use Rattle.std.proofs.Common.{◌≡◌, ℕ, suc, ◌+◌, ◌-◌, ◌<◌, ◌≤◌, true, List, [], ◌∷◌, length, get_or, take, drop}
 use Rattle.std.proofs.Common.{sym, refl, ◌∙◌, subst, inr, ⊎_elim, arith, length-take, get_or-drop, get_or-take}
 use Rattle.std.specs.List.{between}
-use Rattle.std.proofs.lemmas.List.{get_or_past, get_or_append_left}
-use Rattle.std.proofs.lemmas.Slice.{drop-append-drop}
+use Rattle.std.proofs.lemmas.List.{get_or_past}
 use Rattle.std.proofs.lemmas.Bool.{and_from, lt-ltb, cases_lt}
 use Rattle.protocol.specs.Vote.{Limits, word_bound}
 use Rattle.protocol.specs.Member.{new_member}
@@ -27,14 +26,6 @@ use Rattle.moves.specs.Parts.{Blank}
 -- the parts are as long together as the limits ask for
 pub size_is : (l : Limits) → blocks_end l ≡ memory_size l
 size_is l = sym (parts_size l)
-
-pub blanked : (l : Limits) (mem ys : List ℕ) (n : ℕ) → n ≡ memory_size l → length ys ≡ n →
-    ((i : ℕ) → get_or ys i 0 ≡ 0) →
-    Blank l mem (ys ++ drop n mem)
-blanked l mem ys n size long zeros = record {
-  zeros = λ i h. get_or_append_left ys (drop n mem) 0 i (omega (arith, size, size_is l, long, h)) ∙ zeros i;
-  rest = drop-append-drop n mem ys (blocks_end l) (omega (arith, size, size_is l)) long;
-}
 
 -- each number of a list fits eight bytes
 pub words_by_places : (xs : List ℕ) → ((i : ℕ) → get_or xs i 0 < word_bound) → all_words xs ≡ true

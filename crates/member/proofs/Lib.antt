@@ -1,4 +1,3 @@
-pub mod Stores
 pub mod Takes
 pub mod Ranges
 pub mod Answering

@@ -152,8 +152,5 @@ pub onward-out : (l : Limits) (v : Vote) (m : Member) (o : List Vote) →
 onward-out l v m o =
     cond_both {A = Outcome} _ _ (record { member = m; out = o }) (λ d. d.out ≡ o) (λ _. refl) (λ _. refl)
 
-pub agree-out : (l : Limits) (d : Outcome) → (agree l d).out ≡ d.out
-agree-out l d = refl
-
 pub agree-member : (l : Limits) (d e : Outcome) → d.member ≡ e.member → (agree l d).member ≡ (agree l e).member
 agree-member l d e same = ap (λ (m : Member). (agree l (silent m)).member) same

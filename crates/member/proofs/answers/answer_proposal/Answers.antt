@@ -7,10 +7,13 @@ use Rattle.member.proofs.Deciding.{proposal_taken, done}
 use Rattle.cells.proofs.InRange.{proposal_periods}
 use Rattle.member.proofs.answers.answer_proposal.Goals as goal
 
-pub on_proposal-said-requires : goal.on_proposal-said-requires
-on_proposal-said-requires c =
-    let p = proposal_periods (lim c.args.member) (proposal_of c.args.proposal) c.requires.proposal in
-    record { long = c.requires.long; some = p.0; few = p.1 }
+pub on_proposal-said-requires-clause-some : goal.on_proposal-said-requires-clause-some
+on_proposal-said-requires-clause-some c =
+    (proposal_periods (lim c.args.member) (proposal_of c.args.proposal) c.requires.proposal).0
+
+pub on_proposal-said-requires-clause-few : goal.on_proposal-said-requires-clause-few
+on_proposal-said-requires-clause-few c =
+    (proposal_periods (lim c.args.member) (proposal_of c.args.proposal) c.requires.proposal).1
 
 pub returns : goal.returns
 returns c =

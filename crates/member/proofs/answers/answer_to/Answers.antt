@@ -36,11 +36,8 @@ returns-in_default-undecided c =
 was : (event good open' e : code.Event) → good ≡ event → open' ≡ good → open' ≡ e → event ≡ e
 was event good open' e p q h = sym p ∙ sym q ∙ h
 
-pub answer_vote-requires : goal.answer_vote-requires
+pub answer_vote-requires-clause-vote : goal.answer_vote-requires-clause-vote
 unfolding in_range
-answer_vote-requires c = record {
-  long = c.requires.long;
-  vote = subst (λ (e : code.Event). in_range (lim c.args.member) (event_of e) ≡ true)
-      (was _ _ _ _ c.in-Some.ensures.is.0 c.in-Some-undecided.ensures.same c.in-Vote.is)
-      c.in-Some.ensures.is.1;
-}
+answer_vote-requires-clause-vote c =
+    subst (λ (e : code.Event). in_range (lim c.args.member) (event_of e) ≡ true)
+    (was _ _ _ _ c.in-Some.ensures.is.0 c.in-Some-undecided.ensures.same c.in-Vote.is) c.in-Some.ensures.is.1

@@ -1,9 +1,9 @@
-use Rattle.std.proofs.Common.{◌≡◌, ℕ, true, false, List, sym, refl, ap, ◌∙◌, subst, arith}
+use Rattle.std.proofs.Common.{◌≡◌, ℕ, false, List, sym, refl, ap, ◌∙◌, subst, arith}
 use Rattle.moves.specs.Events.{Did}
 use Rattle.moves.specs.Stands.{lim}
 use Rattle.moves.specs.declared.state.Member.{Member}
 use Rattle.protocol.specs.Vote.{Vote, slot_taken}
-use Rattle.protocol.specs.Member.{got_vote, vote_in_range, place, does}
+use Rattle.protocol.specs.Member.{got_vote, place, does}
 use Rattle.wire.specs.declared.votes.Vote as code-vote
 use Rattle.wire.specs.Meaning.{vote_of, said_of}
 use Rattle.member.proofs.Deciding.{vote-refused, vote_taken, refuse, done}
@@ -20,13 +20,6 @@ returns-in_default c =
           (vote-refused (lim x) m (λ k. refl) ready.open_minded v c.requires.vote (c.in_default.ensures.is m stands))
           refl header stands;
     }
-
-pub on_vote-said-requires : goal.on_vote-said-requires
-on_vote-said-requires c = record {
-  long = c.requires.long;
-  vote = subst (λ (w : code-vote.Vote). vote_in_range (lim c.args.member) (vote_of w) ≡ true)
-      (sym c.in-Some.ensures.same) c.requires.vote;
-}
 
 pub returns : goal.returns
 returns c =

@@ -8,7 +8,7 @@ use Rattle.wire.specs.Meaning.{event_of}
 use Rattle.values.specs.Values.{value_of}
 use Rattle.values.proofs.Limbs.{value_below}
 use Rattle.std.proofs.lemmas.Bool.{lt-ltb}
-use Rattle.member.proofs.Ranges.{some_vote, some_proposal}
+use Rattle.member.proofs.Ranges.{some_vote}
 use Rattle.member.proofs.checks.event_in_range.Goals as goal
 
 pub returns-in-Vote : goal.returns-in-Vote
@@ -16,13 +16,6 @@ unfolding in_range
 returns-in-Vote c = record {
   is = c.is_some.ensures ∙ some_vote c.args.limits c.in-Vote.vote c.new.result c.new.ensures.is
       ∙ ap (λ (e : code.Event). in_range (limits_of all c.args.limits) (event_of e)) (sym c.in-Vote.is);
-}
-
-pub returns-in-Proposal : goal.returns-in-Proposal
-returns-in-Proposal c = record {
-  is = c.is_some-in-Proposal.ensures
-      ∙ some_proposal c.args.limits c.in-Proposal.proposal c.new-in-Proposal.result c.new-in-Proposal.ensures.is
-      ∙ ap (λ (e : code.Event). in_range (limits_of all c.args.limits) (event_of e)) (sym c.in-Proposal.is);
 }
 
 pub returns-in-Block : goal.returns-in-Block

@@ -1,4 +1,4 @@
-use Rattle.std.proofs.Common.{◌≡◌, Ok, Err, Result, is_ok, true, false, Bool, sym, ap, ◌∙◌, subst, arith, MatchResult}
+use Rattle.std.proofs.Common.{◌≡◌, Ok, Err, Result, is_ok, sym, ap, ◌∙◌, subst, arith, MatchResult}
 use Rattle.std.proofs.lemmas.Bool.{true≢false}
 use Rattle.limits.specs.Limits.{Made}
 use Rattle.limits.specs.declared.bounds.Limits.{Limits}

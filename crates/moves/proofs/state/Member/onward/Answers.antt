@@ -4,7 +4,6 @@ use Rattle.protocol.proofs.Ranges.{ranged}
 use Rattle.wire.specs.Meaning.{vote_of}
 use Rattle.moves.specs.Moves.{OfMember}
 use Rattle.moves.specs.Stands.{lim, Stands}
-use Rattle.moves.specs.declared.state.Member.{Member}
 use Rattle.tally.proofs.KindOf.{is-next, is-next_none, some_kind}
 use Rattle.moves.proofs.Onward.{onward-next, onward-none}
 use Rattle.moves.proofs.state.Member.onward.Goals as goal

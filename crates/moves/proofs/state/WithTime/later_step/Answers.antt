@@ -1,4 +1,4 @@
-use Rattle.std.proofs.Common.{◌≡◌, ℕ, suc, ◌+◌, false, List, sym, ap, ◌∙◌, subst, ap₂, add-one, arith}
+use Rattle.std.proofs.Common.{◌≡◌, ℕ, suc, false, List, sym, ◌∙◌, subst, ap₂, arith}
 use Rattle.protocol.specs.Vote.{Vote, slot_taken}
 use Rattle.protocol.specs.Member.{own, at_step, with_vote, chosen, next_vote}
 use Rattle.protocol.proofs.Ranges.{range_test}
