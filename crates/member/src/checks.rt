@@ -1,4 +1,5 @@
 // The checks, in the order of the refusals: each hands its value on, or none.
+// Kept so: that each check hands its value on, and takes a member beside lent memory, is a rule of the project.
 ghost use Rattle.std.specs.Prelude.{◌≡◌, ℕ, ◌≤◌, true, false, ◌||◌, List, [], length, IfSome, MatchOption, ◌==◌, ◌≢◌};
 ghost use Rattle.protocol.specs.Vote.{slot_taken};
 ghost use Rattle.protocol.specs.Member.{vote_in_range, in_range, is_some};

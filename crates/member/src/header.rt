@@ -1,4 +1,5 @@
 // A member's header in memory: taken from it by value, and written back.
+// Kept so: memory is lent as a slice beside the member by value, by a rule of the project.
 ghost use Rattle.std.specs.Prelude.{◌≡◌, ◌+◌, ◌≤◌, length, MatchOption, slice_index};
 ghost use Rattle.protocol.specs.Programs.{memory_size};
 ghost use Rattle.protocol.specs.Promises.{all};
@@ -138,17 +139,19 @@ pub(crate) fn store(memory: &mut [u64], member: Member)
     put_option(memory, AGREED, member.agreed);
 }
 
-// Writes the mark and the limits.
-fn put_limits(memory: &mut [u64], limits: Limits)
-    requires long { memory_size (limits_of all limits) ≤ length memory.old }
-    ensures is { Asks memory.new limits }
-    ensures only { Only 0 5 memory.old memory.new }
+// Writes the mark, the limits and its number.
+fn put_limits(memory: &mut [u64], member: Member)
+    requires long { memory_size (limits_of all member.limits) ≤ length memory.old }
+    ensures is { Asks memory.new member.limits }
+    ensures me { slice_index memory.new 5 ≡ member.me }
+    ensures only { Only 0 6 memory.old memory.new }
 {
     memory[0] = MARK;
-    memory[MEMBERS] = limits.members;
-    memory[PERIODS] = limits.periods;
-    memory[STEPS] = limits.steps;
-    memory[BLOCKS] = limits.blocks;
+    memory[MEMBERS] = member.limits.members;
+    memory[PERIODS] = member.limits.periods;
+    memory[STEPS] = member.limits.steps;
+    memory[BLOCKS] = member.limits.blocks;
+    memory[ME] = member.me;
 }
 
 // Writes the header of a member that is opened.
@@ -157,7 +160,6 @@ pub(crate) fn mark(memory: &mut [u64], member: Member)
     ensures is { Header memory.new member }
     ensures only { Only 0 64 memory.old memory.new }
 {
-    put_limits(memory, member.limits);
-    memory[ME] = member.me;
+    put_limits(memory, member);
     store(memory, member);
 }

@@ -1,4 +1,5 @@
 // Looking at the member that memory holds.
+// Kept so: a member is by value beside lent memory, by a rule of the project.
 ghost use Rattle.std.specs.Prelude.{◌≡◌, ◌≤◌, length, IfSome, IfOk, MatchOption, MatchResult};
 ghost use Rattle.protocol.specs.Programs.{memory_size};
 ghost use Rattle.wire.specs.Meaning.{vote_of};

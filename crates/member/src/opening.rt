@@ -1,4 +1,5 @@
 // Opening a member in lent memory, and calling it.
+// Kept so: memory is lent as a slice beside limits or a member by value, by a rule of the project.
 ghost use Rattle.std.specs.Prelude.{◌≡◌, ◌<◌, ◌≤◌, length, IfOk};
 ghost use Rattle.protocol.specs.Member.{new_member};
 ghost use Rattle.protocol.specs.Programs.{memory_size};
@@ -52,6 +53,7 @@ fn write_new(memory: &mut [u64], limits: Limits, me: u64)
 }
 
 // Opens member `me` in the memory lent, whatever was there before; or says why not, and changes nothing.
+// Kept so: `Limits` in place of the four numbers would ask of callers that these are in range.
 pub fn open(
     memory: &mut [u64],
     members: u64,

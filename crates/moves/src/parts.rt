@@ -1,4 +1,5 @@
 // The parts of a member's memory after its header, each lent to the functions that know it.
+// Kept so: memory is lent as a slice beside a value, by a rule of the project, so each function asks that it is long.
 ghost use Rattle.std.specs.Prelude.{◌≡◌, ℕ, ◌≤◌, false, List, ◌∷◌, length};
 ghost use Rattle.protocol.specs.Vote.{slot_taken, is_vote_in, has_quorum};
 ghost use Rattle.protocol.specs.Member.{is_in, chosen, proposed, keep_best};
