@@ -28,8 +28,7 @@ fn said(first: Option<Vote>, second: Option<Vote>) -> Said
 {
     match (first, second) {
         (None, None) => Said::Nothing,
-        (Some(vote), None) => Said::One(vote),
-        (None, Some(vote)) => Said::One(vote),
+        (Some(vote), None) | (None, Some(vote)) => Said::One(vote),
         (Some(vote), Some(other)) => Said::Two(vote, other),
     }
 }
