@@ -84,13 +84,10 @@ impl Member {
             Stands result memory.now (onward (lim self) (vote_of vote) (silent m)).member }
         ensures same { Same self result }
     {
-        let Ok(kind) = Kind::try_from(vote.kind) else {
-            return self;
-        };
-        match kind {
-            Kind::Soft | Kind::Cert => self,
-            Kind::Next => self.on_to(memory, vote, Some(vote.value)),
-            Kind::NextNone => self.on_to(memory, vote, None),
+        match Kind::try_from(vote.kind) {
+            Ok(Kind::Next) => self.on_to(memory, vote, Some(vote.value)),
+            Ok(Kind::NextNone) => self.on_to(memory, vote, None),
+            Ok(Kind::Soft | Kind::Cert) | Err(_) => self,
         }
     }
 

@@ -20,7 +20,7 @@ use super::state::{Member, WithTime};
 use cells::{ValidProposal, add_block, has_block, keep, proposed_for};
 use limits::Limits;
 use std::ops::Range;
-use tally::{ValidVote, blocks_size, certified, chosen, proposals_size, votes_size};
+use tally::{HeardVotes, ValidVote, blocks_size, proposals_size, votes_size};
 use values::Value;
 
 // The votes lie behind the header,
@@ -109,9 +109,10 @@ impl Member {
         requires long { memory_size (lim self) ≤ length memory.now }
         ensures is { (m : OfMember) → Stands self memory.now m → listed result ≡ chosen (lim self) m }
     {
-        let votes = &memory[votes_range(self.limits)];
-        let blocks = &memory[blocks_range(self.limits)];
-        chosen(votes, self.limits, self.period, blocks, self.blocks)
+        let limits = self.limits;
+        let votes = &memory[votes_range(limits)];
+        let blocks = &memory[blocks_range(limits)];
+        HeardVotes { limits, votes }.chosen(self.period, blocks, self.blocks)
     }
 
     // Is a quorum certain of this value in some period?
@@ -120,7 +121,9 @@ impl Member {
         ensures is { (m : OfMember) → Stands self memory.now m →
             result ≡ certified_by (lim self) (value_of value) self.limits.periods m.votes }
     {
-        certified(&memory[votes_range(self.limits)], self.limits, value)
+        let limits = self.limits;
+        let votes = &memory[votes_range(limits)];
+        HeardVotes { limits, votes }.certified(value)
     }
 
     // Is the block of this value here?
