@@ -87,7 +87,8 @@ impl Member {
         match Kind::try_from(vote.kind) {
             Ok(Kind::Next) => self.on_to(memory, vote, Some(vote.value)),
             Ok(Kind::NextNone) => self.on_to(memory, vote, None),
-            Ok(Kind::Soft | Kind::Cert) | Err(_) => self,
+            Ok(Kind::Soft | Kind::Cert) => self,
+            Err(_) => self,
         }
     }
 
