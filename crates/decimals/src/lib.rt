@@ -5,5 +5,4 @@ mod reading;
 mod shown;
 mod tens;
 
-pub use reading::read_value;
 pub use shown::Decimal;

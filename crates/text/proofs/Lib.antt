@@ -1,2 +1,4 @@
-pub mod Numbers
+pub mod Numerals
+pub mod Spelled
 pub mod Cuts
+pub mod Refused

@@ -2,7 +2,7 @@
 use Rattle.std.specs.Prelude.{◌≡◌, ℕ, ◌^◌, ◌<◌, List, [], ◌∷◌, ◌++◌, Some, None, Ok, Err, codes, decimal, Option}
 use Rattle.std.specs.Prelude.{Result, ◌≢◌}
 use Rattle.std.specs.Borrow.{Bor}
-use Rattle.limits.specs.Limits.{most, first_bad}
+use Rattle.limits.specs.Limits.{most, name_of, first_bad}
 use Rattle.limits.specs.declared.bounds.Limits.{Limits}
 use Rattle.limits.specs.declared.bounds.Limit.{Limit}
 use Rattle.limits.specs.declared.bounds.Limit.TheVariants.{Members, Periods, Steps, Blocks}
@@ -42,13 +42,6 @@ Reads line (Err (NotNumber limit)) =
 Reads line (Err (OutOfRange limit)) =
     (m : ℕ) × ((p : ℕ) × ((s : ℕ) × ((b : ℕ) × ((words line ≡ network (decimal m) (decimal p) (decimal s) (decimal b))
     × (first_bad m p s b ≡ Some limit)))))
-
--- the name of a limit in the line
-abbrev pub name_of : Limit → List ℕ
-name_of Members = codes "MEMBERS"
-name_of Periods = codes "PERIODS"
-name_of Steps = codes "STEPS"
-name_of Blocks = codes "BLOCKS"
 
 -- the reason in words
 abbrev pub error_text : NetworkError → List ℕ

@@ -2,7 +2,9 @@
 #![tactic(auto)]
 
 mod network;
+mod numbers;
 mod words;
 
 pub use network::{NetworkError, read_network};
-pub use words::{cut, is_word, number};
+pub use numbers::{FromDigits, number};
+pub use words::{cut, is_word};

@@ -1,44 +1,20 @@
 // The line `network MEMBERS PERIODS STEPS BLOCKS`.
-ghost use Rattle.std.specs.Prelude.{◌≡◌, Some};
-ghost use Rattle.limits.specs.Limits.{most};
-ghost use Rattle.text.specs.Network.{Fields, Reads, name_of, error_text};
+ghost use Rattle.std.specs.Prelude.{◌≡◌, Some, MatchResult, decimal};
+ghost use Rattle.text.specs.Network.{Fields, IsNumber, Reads, error_text};
 
-use super::words::{cut, is_word, number};
+use super::numbers::number;
+use super::words::{cut, is_word};
 use limits::{Limit, Limits};
 use std::fmt;
 
 // Why a line gives no limits.
-#[derive(Clone, Copy, Drop)]
+#[derive(Clone, Copy, PartialEq, Eq, Debug)]
 pub enum NetworkError {
     // it is not the word `network` and four others
     NotNetwork,
     // this word of it is not a number below 2^64 in decimal, without zeros before it
     NotNumber(Limit),
     OutOfRange(Limit),
-}
-
-// The name of a limit in the line.
-fn name_of(limit: Limit) -> &'static str
-    ensures is { result.now ≡ name_of limit }
-{
-    match limit {
-        Limit::Members => "MEMBERS",
-        Limit::Periods => "PERIODS",
-        Limit::Steps => "STEPS",
-        Limit::Blocks => "BLOCKS",
-    }
-}
-
-// The most that a limit may be.
-fn most_of(limit: Limit) -> u64
-    ensures is { result ≡ most limit }
-{
-    match limit {
-        Limit::Members => 64,
-        Limit::Periods => 32,
-        Limit::Steps => 8,
-        Limit::Blocks => 256,
-    }
 }
 
 impl fmt::Display for NetworkError {
@@ -51,16 +27,14 @@ impl fmt::Display for NetworkError {
                 "it is not 'network MEMBERS PERIODS STEPS BLOCKS'"
             ),
             NetworkError::NotNumber(limit) => {
-                let name = name_of(limit);
                 write!(
                     f,
-                    "{name} is no number below 2^64 in decimal without zeros before it"
+                    "{limit} is no number below 2^64 in decimal without zeros before it"
                 )
             }
             NetworkError::OutOfRange(limit) => {
-                let name = name_of(limit);
-                let most = most_of(limit);
-                write!(f, "{name} is not 1 to {most}")
+                let most = limit.most();
+                write!(f, "{limit} is not 1 to {most}")
             }
         }
     }
@@ -77,33 +51,28 @@ fn fields(line: &[u8]) -> Option<(&[u8], &[u8], &[u8], &[u8])>
     if !is_word(name, b"network") {
         return None;
     }
-    if let Some(_) = cut(blocks, b' ') {
+    if cut(blocks, b' ').is_some() {
         return None;
     }
     Some((members, periods, steps, blocks))
+}
+
+// The number that the word of a limit spells.
+fn read_limit(limit: Limit, word: &[u8]) -> Result<u64, NetworkError>
+    ensures is { MatchResult result (λ n. word.now ≡ decimal n)
+        (λ e. (e ≡ NetworkError.NotNumber limit) × (IsNumber word.now → ⊥)) }
+{
+    number(word).ok_or(NetworkError::NotNumber(limit))
 }
 
 // The limits that a line says, or why it says none: the first reason that applies.
 pub fn read_network(line: &[u8]) -> Result<Limits, NetworkError>
     ensures is { Reads line.now result }
 {
-    let Some((members, periods, steps, blocks)) = fields(line) else {
-        return Err(NetworkError::NotNetwork);
-    };
-    let Some(members) = number(members) else {
-        return Err(NetworkError::NotNumber(Limit::Members));
-    };
-    let Some(periods) = number(periods) else {
-        return Err(NetworkError::NotNumber(Limit::Periods));
-    };
-    let Some(steps) = number(steps) else {
-        return Err(NetworkError::NotNumber(Limit::Steps));
-    };
-    let Some(blocks) = number(blocks) else {
-        return Err(NetworkError::NotNumber(Limit::Blocks));
-    };
-    match Limits::new(members, periods, steps, blocks) {
-        Ok(limits) => Ok(limits),
-        Err(limit) => Err(NetworkError::OutOfRange(limit)),
-    }
+    let (members, periods, steps, blocks) = fields(line).ok_or(NetworkError::NotNetwork)?;
+    let members = read_limit(Limit::Members, members)?;
+    let periods = read_limit(Limit::Periods, periods)?;
+    let steps = read_limit(Limit::Steps, steps)?;
+    let blocks = read_limit(Limit::Blocks, blocks)?;
+    Limits::new(members, periods, steps, blocks).map_err(NetworkError::OutOfRange)
 }
