@@ -4,10 +4,10 @@ use Rattle.std.proofs.Common.{append-nil}
 use Rattle.protocol.specs.Vote.{Vote, Proposal}
 use Rattle.protocol.specs.Member.{got_vote, got_proposal, got_block, timeout}
 use Rattle.lines.specs.Between.{between, followed}
-use Rattle.decimals.specs.Decimals.{spelled}
+use Rattle.text.specs.Decimals.{spelled}
 use Rattle.lines.specs.Events.{event_text}
 use Rattle.lines.specs.Answers.{agreed_text, refused_text}
-use Rattle.decimals.proofs.Spelled.{shown_number}
+use Rattle.text.proofs.Spelled.{shown_number}
 
 pub vote_shown : (v : Vote) → v.kind < 2 ^ 64 → v.period < 2 ^ 64 → v.step < 2 ^ 64 → v.from < 2 ^ 64 →
     codes "vote " ++ (decimal v.kind ++ (32 ∷ (decimal v.period ++ (32 ∷ (decimal v.step

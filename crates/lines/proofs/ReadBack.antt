@@ -9,11 +9,11 @@ use Rattle.protocol.specs.Member.{Event, got_vote, got_proposal, got_block, time
 use Rattle.protocol.specs.Member.{refused, says}
 use Rattle.wire.specs.Meaning.{event_of}
 use Rattle.lines.specs.Between.{between, spaced}
-use Rattle.decimals.specs.Decimals.{spelled}
+use Rattle.text.specs.Decimals.{spelled}
 use Rattle.lines.specs.Events.{event_words, event_text}
 use Rattle.lines.specs.Answers.{vote_text, agreed_text, refused_text}
 use Rattle.lines.specs.Reads.{EventsReadBack, EventsOneSpelling, AnswersByLines}
-use Rattle.decimals.proofs.Spelled.{value-spelled}
+use Rattle.text.proofs.Spelled.{value-spelled}
 use Rattle.wire.proofs.Meaning.{real_event}
 use Rattle.lines.proofs.Spaces.{plain, plain_spelled, no_space, no_feed, spaced-words}
 use Rattle.lines.proofs.Spaces.{AllFree, pieces-between, free-between}

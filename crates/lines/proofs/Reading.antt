@@ -1,15 +1,14 @@
 -- What the words of a line say, and that other words say nothing.
-use Rattle.std.proofs.Common.{◌≡◌, ℕ, ◌^◌, ◌<◌, true, List, [], ◌∷◌, Some, None, codes, decimal, Option, ap, ◌∙◌, arith}
+use Rattle.std.proofs.Common.{◌≡◌, ℕ, ◌^◌, ◌<◌, true, List, [], ◌∷◌, Some, None, codes, Option, ap, ◌∙◌, arith}
 use Rattle.std.proofs.Common.{MatchOption}
 use Rattle.std.proofs.lemmas.Bool.{and_parts, ltb-true}
 use Rattle.text.specs.Words.{words}
 use Rattle.protocol.specs.Vote.{Vote, Proposal}
 use Rattle.protocol.specs.Member.{Event, got_vote, got_proposal, got_block, timeout, unreadable}
 use Rattle.protocol.specs.Programs.{readable}
-use Rattle.decimals.specs.Decimals.{spelled}
+use Rattle.text.specs.Decimals.{spelled}
 use Rattle.lines.specs.Fields.{Last}
 use Rattle.lines.specs.Events.{vote_words, proposal_words, event_words}
-use Rattle.decimals.proofs.Spelled.{spelled_decimal}
 use Rattle.lines.proofs.Spaces.{one_word, only_word, some_word}
 
 -- the only word is a number, if the whole text is
@@ -18,11 +17,6 @@ pub last_from_whole : {A : Type 0} (bound : ℕ) (of : A → ℕ) (text : List �
 last_from_whole bound of text (Some x) h = ap words h ∙ one_word (of x)
 last_from_whole bound of text None h = λ n small e. h n small (only_word text (spelled n) e)
 
--- std's decimal is the same spelling
-pub not_spelled : (text : List ℕ) → ((n : ℕ) → n < 2 ^ 64 → text ≡ decimal n → ⊥) →
-    (n : ℕ) → n < 2 ^ 64 → text ≡ spelled n → ⊥
-not_spelled text none n small e = none n small (e ∙ spelled_decimal n small)
-
 -- two ways to say the words are the same, at the first and at those after it
 module _ {a b : List ℕ} {ws us vs : List (List ℕ)} where
   pub first_word : ws ≡ a ∷ us → ws ≡ b ∷ vs → a ≡ b
@@ -30,12 +24,6 @@ module _ {a b : List ℕ} {ws us vs : List (List ℕ)} where
 
   pub after_word : ws ≡ a ∷ us → ws ≡ b ∷ vs → us ≡ vs
   after_word p q = cc
-
--- VALUE FROM are left after three words of a vote
-pub value-from : {a b c : List ℕ} {ws ws₁ ws₂ ws₃ : List (List ℕ)} (v : Vote) →
-    ws ≡ a ∷ ws₁ → ws₁ ≡ b ∷ ws₂ → ws₂ ≡ c ∷ ws₃ → ws ≡ vote_words v →
-    ws₃ ≡ spelled v.value ∷ (spelled v.from ∷ [])
-value-from v p q r e = cc
 
 -- KIND PERIOD STEP VALUE FROM fit their fields
 pub vote_fits : (v : Vote) → readable (got_vote v) ≡ true →

@@ -7,9 +7,9 @@ use Rattle.std.proofs.lemmas.Bool.{le-leb}
 use Rattle.std.proofs.lemmas.Str.Parse.{digit_from_value}
 use Rattle.text.specs.Words.{free_of, onto_first, pieces, words}
 use Rattle.text.proofs.Cuts.{one_piece, not_one_piece}
-use Rattle.decimals.specs.Decimals.{spelled}
+use Rattle.text.specs.Decimals.{spelled}
 use Rattle.lines.specs.Between.{between, spaced}
-use Rattle.decimals.proofs.Spelled.{digits-spelled}
+use Rattle.text.proofs.Spelled.{digits-spelled}
 
 -- bytes from '0' on, but no colon: digits and letters, which are no separator
 abbrev pub plain : List ℕ → Bool

@@ -3,7 +3,7 @@ use Rattle.std.specs.Prelude.{ℕ, List, [], ◌∷◌, ◌++◌, map, codes}
 use Rattle.protocol.specs.Vote.{Vote}
 use Rattle.protocol.specs.Member.{got_vote, Answer, refused, says}
 use Rattle.lines.specs.Between.{between, spaced}
-use Rattle.decimals.specs.Decimals.{spelled}
+use Rattle.text.specs.Decimals.{spelled}
 use Rattle.lines.specs.Events.{event_text}
 
 -- a vote that is said is the text of the event that it is for the others

@@ -3,7 +3,7 @@ use Rattle.std.specs.Prelude.{ℕ, List, [], ◌∷◌, codes}
 use Rattle.protocol.specs.Vote.{Vote, Proposal}
 use Rattle.protocol.specs.Member.{Event, got_vote, got_proposal, got_block, timeout, unreadable}
 use Rattle.lines.specs.Between.{spaced}
-use Rattle.decimals.specs.Decimals.{spelled}
+use Rattle.text.specs.Decimals.{spelled}
 
 -- KIND PERIOD STEP VALUE FROM
 abbrev pub vote_words : Vote → List (List ℕ)

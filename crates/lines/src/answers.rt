@@ -72,6 +72,8 @@ fn put_answer<W: fmt::Write>(answer: Answer, sep: &str, f: &mut fmt::Formatter<W
     }
 }
 
+// Kept so: the two forms share `put_answer`; one type that holds a separator and an ending would let any other form in.
+
 // An answer, to be shown as lines, each ended by a line feed.
 #[derive(Clone, Copy)]
 pub struct AnswerLines(pub Answer);

@@ -1,8 +1,8 @@
 // Events as lines: `vote KIND PERIOD STEP VALUE FROM`, `offer PERIOD RANK VALUE`, `block VALUE`, `time`.
 ghost use Rattle.lines.specs.Reads.{Reads, ReadsVote, ReadsProposal};
 
-use crate::fields::{last_number, last_value, number_field};
-use decimals::read_value;
+use crate::fields::{field, last_field};
+use decimals::Decimal;
 use text::{cut, is_word};
 use wire::{Event, Proposal, Vote};
 
@@ -10,12 +10,11 @@ use wire::{Event, Proposal, Vote};
 fn read_vote(fields: &[u8]) -> Option<Vote>
     ensures is { ReadsVote fields.now result }
 {
-    let (kind, rest) = number_field(fields)?;
-    let (period, rest) = number_field(rest)?;
-    let (step, rest) = number_field(rest)?;
-    let (value, from) = cut(rest, b' ')?;
-    let value = read_value(value)?;
-    let from = last_number(from)?;
+    let (kind, rest) = field(fields)?;
+    let (period, rest) = field(rest)?;
+    let (step, rest) = field(rest)?;
+    let (Decimal(value), rest) = field(rest)?;
+    let from = last_field(rest)?;
     Some(Vote {
         kind,
         period,
@@ -29,9 +28,9 @@ fn read_vote(fields: &[u8]) -> Option<Vote>
 fn read_proposal(fields: &[u8]) -> Option<Proposal>
     ensures is { ReadsProposal fields.now result }
 {
-    let (period, rest) = number_field(fields)?;
-    let (rank, rest) = number_field(rest)?;
-    let value = last_value(rest)?;
+    let (period, rest) = field(fields)?;
+    let (rank, rest) = field(rest)?;
+    let Decimal(value) = last_field(rest)?;
     Some(Proposal {
         period,
         rank,
@@ -45,20 +44,18 @@ pub fn read_line(line: &[u8]) -> Option<Event>
     ensures is { Reads line.now result }
 {
     let Some((name, fields)) = cut(line, b' ') else {
-        return if is_word(line, b"time") {
-            Some(Event::Timeout)
-        } else {
-            None
-        };
+        return is_word(line, b"time").then_some(Event::Timeout);
     };
+    // Kept so: in a match on the bytes of the name no fact says which word it is, and the check leaves its arms open.
     if is_word(name, b"vote") {
-        return Some(Event::Vote(read_vote(fields)?));
+        return read_vote(fields).map(Event::Vote);
     }
     if is_word(name, b"offer") {
-        return Some(Event::Proposal(read_proposal(fields)?));
+        return read_proposal(fields).map(Event::Proposal);
     }
     if is_word(name, b"block") {
-        return Some(Event::Block(last_value(fields)?));
+        let Decimal(value) = last_field(fields)?;
+        return Some(Event::Block(value));
     }
     None
 }

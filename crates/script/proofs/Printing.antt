@@ -4,10 +4,10 @@ use Rattle.std.proofs.Common.{append_assoc}
 use Rattle.std.proofs.lemmas.Bool.{false≢true}
 use Rattle.protocol.specs.Member.{Event, got_vote, got_proposal, got_block, timeout, unreadable, is_event, says}
 use Rattle.lines.specs.Between.{between}
-use Rattle.decimals.specs.Decimals.{spelled}
+use Rattle.text.specs.Decimals.{spelled}
 use Rattle.lines.specs.Events.{event_text}
 use Rattle.lines.specs.Answers.{agreed_text, answer_line}
-use Rattle.decimals.proofs.Spelled.{shown_number}
+use Rattle.text.proofs.Spelled.{shown_number}
 use Rattle.lines.proofs.Printing.{one_between}
 use Rattle.script.specs.Shown.{delivery_text, member_text}
 

@@ -4,8 +4,8 @@ use Rattle.std.specs.Str.Parse.{digits_value}
 use Rattle.text.specs.Words.{free_of, words}
 use Rattle.protocol.specs.Member.{Event}
 use Rattle.lines.specs.Between.{spaced}
-use Rattle.decimals.specs.Decimals.{spelled}
-use Rattle.decimals.proofs.Spelled.{value-spelled}
+use Rattle.text.specs.Decimals.{spelled}
+use Rattle.text.proofs.Spelled.{value-spelled}
 use Rattle.lines.proofs.Spaces.{plain, no_space, no_colon, spaced-words}
 use Rattle.lines.proofs.Spaces.{AllFree, pieces_at_first, pieces-between, free-between}
 use Rattle.lines.proofs.ReadBack.{free_number, free-words, words_back, events_read_back}

@@ -6,7 +6,7 @@ use Rattle.protocol.specs.Member.{Event, is_event}
 use Rattle.protocol.specs.Programs.{readable}
 use Rattle.wire.specs.Meaning.{event_of}
 use Rattle.wire.specs.declared.events.Event as wire
-use Rattle.decimals.specs.Decimals.{spelled}
+use Rattle.text.specs.Decimals.{spelled}
 use Rattle.lines.specs.Events.{event_words}
 use Rattle.script.specs.declared.reads.FaultyError.{FaultyError}
 use Rattle.script.specs.declared.reads.FaultyError.TheVariants.{NotFaulty, NotNumber}

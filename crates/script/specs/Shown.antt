@@ -6,7 +6,7 @@ use Rattle.protocol.specs.Programs.{readable}
 use Rattle.wire.specs.Meaning.{event_of, answer_of}
 use Rattle.wire.specs.declared.events.Event as wire
 use Rattle.lines.specs.Between.{spaced}
-use Rattle.decimals.specs.Decimals.{spelled}
+use Rattle.text.specs.Decimals.{spelled}
 use Rattle.lines.specs.Answers.{answer_line, agreed_text}
 use Rattle.script.specs.Reads.{delivery_words, ReadsDelivery}
 use Rattle.script.specs.declared.shown.Outcome.{Outcome}

@@ -6,7 +6,6 @@ use Rattle.limits.specs.declared.bounds.Limits.{Limits}
 use Rattle.limits.specs.declared.bounds.Limit.{Limit}
 use Rattle.text.specs.declared.network.NetworkError.{NetworkError}
 use Rattle.text.specs.declared.network.NetworkError.TheVariants.{NotNumber}
-use Rattle.text.specs.Words.{words}
 use Rattle.text.specs.Network.{Fields, IsNumber, FirstNoNumber, Reads}
 
 pub is_number : {w : List ℕ} {n : ℕ} → n < 2 ^ 64 → w ≡ decimal n → IsNumber w

@@ -6,7 +6,7 @@ use Rattle.lines.proofs.answers.put_refused.Goals as goal
 
 pub returns : goal.returns
 returns g c =
-    let number = c.number-number in
-    let is = refused_shown number.result (refusal_number c.args.refusal) c.args.place number.ensures.is
+    let number = c.from-number in
+    let is = refused_shown number.result (refusal_number c.args.refusal) c.args.place number.ensures
     (omega arith) (omega arith) in
     record { is = λ plain ok. has_written_of_eq g.W.Write.write_str_gives _ _ _ _ is (c.write.ensures.writes plain ok) }

@@ -1,4 +1,4 @@
-use Rattle.lines.proofs.Reading.{first_word, after_word, value-from, vote_fits}
+use Rattle.lines.proofs.Reading.{after_word, vote_fits}
 use Rattle.lines.proofs.events.read_vote.Goals as goal
 
 pub returns-in_err-kind : goal.returns-in_err-kind
@@ -26,16 +26,15 @@ returns-in_err-step c =
           (after_word period (after_word kind e)));
     }
 
-pub returns-in_err-value-2 : goal.returns-in_err-value-2
-returns-in_err-value-2 c =
+pub returns-in_err-value : goal.returns-in_err-value
+returns-in_err-value c =
     let kind = c.in_ok-kind.ensures.is in
     let period = c.in_ok-period.ensures.is in
     let step = c.in_ok-step.ensures.is in
-    let value = c.in_ok-value.ensures.is in
     record {
-      is = rw c.from_residual-in_err-value-2.ensures
-          (λ v fits e. c.in_err-value-2.ensures.is v.value (vote_fits v fits).3
-          (first_word value (value-from v kind period step e)));
+      is = rw c.from_residual-in_err-value.ensures
+          (λ v fits e. c.in_err-value.ensures.is v.value _ _ (vote_fits v fits).3
+          (after_word step (after_word period (after_word kind e))));
     }
 
 pub returns-in_err-from : goal.returns-in_err-from
@@ -47,5 +46,5 @@ returns-in_err-from c =
     record {
       is = rw c.from_residual-in_err-from.ensures
           (λ v fits e. c.in_err-from.ensures.is v.from (vote_fits v fits).4
-          (after_word value (value-from v kind period step e)));
+          (after_word value (after_word step (after_word period (after_word kind e)))));
     }

@@ -1,6 +1,4 @@
-use Rattle.std.proofs.Common.{arith}
-use Rattle.decimals.proofs.Spelled.{spelled_decimal}
-use Rattle.lines.proofs.Reading.{not_spelled, first_word}
+use Rattle.lines.proofs.Reading.{first_word}
 use Rattle.script.proofs.Reading.{one_word_none}
 use Rattle.script.proofs.reads.read_delivery.Goals as goal
 
@@ -14,9 +12,9 @@ returns-in_err-to c =
 pub returns-in_err-to-2 : goal.returns-in_err-to-2
 returns-in_err-to-2 c =
     let at = c.in_ok-to.ensures.is in
-    let no_number = not_spelled c.in_ok-to.to.now c.in_err-to-2.ensures.is in
     record {
-      is = rw c.from_residual-in_err-to-2.ensures (λ i e small is fits q. no_number i small (first_word at q));
+      is = rw c.from_residual-in_err-to-2.ensures
+          (λ i e small is fits q. c.in_err-to-2.ensures.is i small (first_word at q));
     }
 
 pub returns : goal.returns
@@ -24,5 +22,4 @@ returns c =
     let at = c.in_ok-to.ensures.is in
     let to = c.in_ok-to-2.ensures.is in
     let event = c.in_ok-event.ensures.is in
-    let same = spelled_decimal c.in_ok-to-2.to (omega arith) in
     record { is = cc }
