@@ -1,6 +1,10 @@
 -- What std writes of numbers, with spaces between them, is the text of a line.
 use Rattle.std.proofs.Common.{◌≡◌, ℕ, ◌^◌, ◌<◌, List, [], ◌∷◌, ◌++◌, codes, decimal, refl, ap, ◌∙◌, append_assoc}
-use Rattle.std.proofs.Common.{append-nil}
+use Rattle.std.proofs.Common.{append-nil, Ok, Result}
+use Rattle.std.specs.Fmt.{WritesOnOk}
+use Rattle.std.specs.declared.fmt.Formatter.{Formatter}
+use Rattle.std.specs.declared.fmt.Error.{Error}
+use Rattle.std.proofs.Output.{has_written_of_eq, has_written_append}
 use Rattle.protocol.specs.Vote.{Vote, Proposal}
 use Rattle.protocol.specs.Member.{got_vote, got_proposal, got_block, timeout}
 use Rattle.lines.specs.Between.{between, followed}
@@ -8,6 +12,19 @@ use Rattle.text.specs.Decimals.{spelled}
 use Rattle.lines.specs.Events.{event_text}
 use Rattle.lines.specs.Answers.{agreed_text, refused_text}
 use Rattle.text.proofs.Spelled.{shown_number}
+
+module _ {W : Type 0} {took : W → List ℕ → W → Type 0} where
+  -- what is written, under another name
+  pub same_written : {f g : Formatter W} {a b : List ℕ} (r : Result (Unit {0}) Error) → a ≡ b →
+      WritesOnOk took f r a g → WritesOnOk took f r b g
+  same_written r is h plain ok = has_written_of_eq took _ _ _ _ is (h plain ok)
+
+  -- one text after another
+  pub both_written : {f g h : Formatter W} {a b c : List ℕ} (r : Result (Unit {0}) Error) → a ++ b ≡ c →
+      WritesOnOk took f (Ok tt) a g → WritesOnOk took g r b h → WritesOnOk took f r c h
+  both_written r is front rest plain ok =
+      let first = front plain refl in
+      has_written_of_eq took _ _ _ _ is (has_written_append took _ _ _ _ _ first (rest first.plain ok))
 
 pub vote_shown : (v : Vote) → v.kind < 2 ^ 64 → v.period < 2 ^ 64 → v.step < 2 ^ 64 → v.from < 2 ^ 64 →
     codes "vote " ++ (decimal v.kind ++ (32 ∷ (decimal v.period ++ (32 ∷ (decimal v.step

@@ -71,10 +71,6 @@ spaced-words (c ∷ cs) = made (eqb c 32) refl (words cs) refl (spaced-words cs)
     made false is (w ∷ ws) e rest =
         onto w ws ∙ ap (λ (x : List (List ℕ)). c ∷ spaced x) (sym e) ∙ ap (λ (x : List ℕ). c ∷ x) rest
 
--- lines of the same words are the same
-pub same_lines : (line line' : List ℕ) → words line ≡ words line' → line ≡ line'
-same_lines line line' e = sym (spaced-words line) ∙ ap spaced e ∙ spaced-words line'
-
 -- a line of one word is that word
 pub only_word : (line w : List ℕ) → words line ≡ w ∷ [] → line ≡ w
 unfolding between

@@ -41,6 +41,7 @@ impl fmt::Display for NetworkError {
 }
 
 // The four words after `network`.
+// Kept so: the words are named where they are taken apart, at once; a struct for them would name them twice.
 fn fields(line: &[u8]) -> Option<(&[u8], &[u8], &[u8], &[u8])>
     ensures is { Fields line.now result }
 {
