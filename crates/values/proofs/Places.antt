@@ -1,9 +1,10 @@
 -- A list written out by its places. Assumes nothing.
 use Rattle.std.proofs.Common.{◌≡◌, ℕ, zero, suc, ◌+◌, ◌<◌, true, List, [], ◌∷◌, length, get_or, drop, sym, refl, ap}
-use Rattle.std.proofs.Common.{◌∙◌, arith, drop-cons}
+use Rattle.std.proofs.Common.{◌∙◌, arith, drop-cons, Fits, w8}
 use Rattle.std.proofs.lemmas.List.{drop_all}
 use Rattle.std.proofs.lemmas.Bool.{and_from, lt-ltb}
-use Rattle.values.specs.Digits.{under}
+use Rattle.values.specs.Digits.{under, digits, le_number, le_bytes}
+use Rattle.values.proofs.Digits.{digits_number}
 
 -- the k elements from place i on
 unfoldable pub places : ℕ → ℕ → List ℕ → List ℕ
@@ -21,3 +22,9 @@ pub under_by_places : (b : ℕ) (xs : List ℕ) → ((i : ℕ) → get_or xs i 0
 unfolding under
 under_by_places b [] h = refl
 under_by_places b (x ∷ xs) h = and_from _ _ (lt-ltb x b (h 0)) (under_by_places b xs (λ i. h (suc i)))
+
+-- bytes are those of the number that they write
+pub bytes_back : (bs : List ℕ) (k n : ℕ) → length bs ≡ k → n ≡ le_number bs → ((i : ℕ) → Fits w8 (get_or bs i 0)) →
+    le_bytes k n ≡ bs
+bytes_back bs k n long is low =
+    (λ i. digits 256 (sym long i) (is i)) ∙ digits_number 256 bs (under_by_places 256 bs (λ i. (low i).fits))

@@ -27,6 +27,7 @@ impl Value {
 }
 
 // The number that eight bytes write.
+#[tactic(auto, using(crate::proofs::Words::word_number, crate::proofs::Places::bytes_back))]
 pub fn read_number(part: &[u8]) -> u64
     requires { length part.now ≡ 8 }
     ensures is { result ≡ le_number part.now }
@@ -36,6 +37,7 @@ pub fn read_number(part: &[u8]) -> u64
 }
 
 // The eight bytes of a number.
+#[tactic(auto, using(crate::proofs::Words::word_bytes))]
 pub fn write_number(part: &mut [u8], number: u64)
     requires { length part.old ≡ 8 }
     ensures is { part.new ≡ le_bytes 8 number }

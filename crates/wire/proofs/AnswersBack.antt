@@ -9,8 +9,7 @@ use Rattle.values.specs.declared.value.Value.{Value}
 use Rattle.values.specs.Digits.{le_bytes}
 use Rattle.values.proofs.Digits.{length_digits}
 use Rattle.protocol.specs.Vote.{Vote, word_bound}
-use Rattle.protocol.specs.Member.{Answer, refused, says, got_vote}
-use Rattle.protocol.specs.Programs.{readable}
+use Rattle.protocol.specs.Member.{Answer, refused, says}
 use Rattle.wire.specs.declared.answers.Refusal.{Refusal}
 use Rattle.wire.specs.declared.answers.Refusal.TheVariants.{NoEvent, OutOfRange, AgreedBefore, VotedBefore, NoMoreTime}
 use Rattle.wire.specs.declared.answers.Refusal.TheVariants.{NoMoreBlocks}
@@ -80,7 +79,7 @@ answers_read_back (refused r n) fit =
     let long : length bs ≡ 17 = ap suc (simp (length-append, length_digits)) in
     let why = field bs (le_bytes 8 n) 1 8 r (omega arith) refl in
     let place = field bs [] 9 8 n (ltb-true _ _ fits.1) (why.1 ∙ sym (append-nil _)) in
-    answer_at bs 0 refl
+    answer_at bs 0 (some_bytes bs (omega arith)) refl
     ∙ reaching-is Err 8 bs _ (omega arith)
     ∙ ap (λ k. refused_by k bs) why.0
     ∙ cond-true _ _ _ fits.0
@@ -101,7 +100,7 @@ answers_read_back (says vs xs) fit =
     let some = some_agreed xs in
     let long : length bs ≡ suc (8 + 64 * n + length A) =
     ap suc (length-append (said_bytes vs) A ∙ ap (λ k. k + length A) (length-said vs)) in
-    answer_at bs 1 refl
+    answer_at bs 1 (some_bytes bs (omega arith)) refl
     ∙ reaching-is Err 8 bs _ (omega arith)
     ∙ ap (λ k. says_by k bs) count.0
     ∙ cond-true _ _ _ fits.0
@@ -119,14 +118,14 @@ answer_written_back a before after (Ok n) fit w =
 answer_written_back a before after (Err n) fit w = tt
 
 -- what the code holds can be said
-pub held-refusal_fits : (r : Refusal) (n : ℕ) → n < word_bound → sayable (refused (refusal_number r) n) ≡ true
+pub held_refusal_fits : (r : Refusal) (n : ℕ) → n < word_bound → sayable (refused (refusal_number r) n) ≡ true
 unfolding sayable
-held-refusal_fits NoEvent n low = lt-ltb _ _ low
-held-refusal_fits OutOfRange n low = lt-ltb _ _ low
-held-refusal_fits AgreedBefore n low = lt-ltb _ _ low
-held-refusal_fits VotedBefore n low = lt-ltb _ _ low
-held-refusal_fits NoMoreTime n low = lt-ltb _ _ low
-held-refusal_fits NoMoreBlocks n low = lt-ltb _ _ low
+held_refusal_fits NoEvent n low = lt-ltb _ _ low
+held_refusal_fits OutOfRange n low = lt-ltb _ _ low
+held_refusal_fits AgreedBefore n low = lt-ltb _ _ low
+held_refusal_fits VotedBefore n low = lt-ltb _ _ low
+held_refusal_fits NoMoreTime n low = lt-ltb _ _ low
+held_refusal_fits NoMoreBlocks n low = lt-ltb _ _ low
 
 few-said : (s : Said) → leb (length (said_of s)) 2 ≡ true
 few-said Nothing = refl
@@ -138,17 +137,7 @@ unfolding agreed_fits
 held-agreed_fits None = refl
 held-agreed_fits (Some x) = value_fits x
 
-pub held-says_fits : (s : Said) (o : Option Value) → votes_fit (said_of s) ≡ true →
+pub held_says_fits : (s : Said) (o : Option Value) → votes_fit (said_of s) ≡ true →
     sayable (says (said_of s) (agreed_of o)) ≡ true
 unfolding sayable
-held-says_fits s o fit = and_from _ _ (few-said s) (and_from _ _ fit (held-agreed_fits o))
-
-pub one_fits : (s : Said) (v : Vote) → said_of s ≡ v ∷ [] → readable (got_vote v) ≡ true → votes_fit (said_of s) ≡ true
-unfolding votes_fit
-one_fits s v is fit = ap votes_fit is ∙ and_from _ _ fit refl
-
-pub two_fit : (s : Said) (v w : Vote) → said_of s ≡ v ∷ w ∷ [] → readable (got_vote v) ≡ true →
-    readable (got_vote w) ≡ true →
-    votes_fit (said_of s) ≡ true
-unfolding votes_fit
-two_fit s v w is fit fit' = ap votes_fit is ∙ and_from _ _ fit (and_from _ _ fit' refl)
+held_says_fits s o fit = and_from _ _ (few-said s) (and_from _ _ fit (held-agreed_fits o))

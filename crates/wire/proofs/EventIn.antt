@@ -1,18 +1,12 @@
 -- The event in bytes, by their first. Assumes nothing.
-use Rattle.std.proofs.Common.{◌≡◌, ℕ, suc, ◌^◌, ◌<◌, true, List, length, get_or, IsErrAnd, Ok, Err, Some, [], ◌∷◌, Result, sym}
+use Rattle.std.proofs.Common.{◌≡◌, ℕ, ◌^◌, ◌<◌, true, false, eqb, List, length, get_or}
 use Rattle.std.proofs.Common.{ap, ◌∙◌, arith}
-use Rattle.std.proofs.lemmas.Bool.{cond-false, cond_both, eqb-true, eqb-false, ne_eqb}
-use Rattle.std.proofs.lemmas.Option.{none-some, same_Some}
-use Rattle.std.specs.List.{slice_get}
-use Rattle.std.proofs.lemmas.Result.{err_from_is_err_and}
-use Rattle.std.proofs.lemmas.Bool.Decides.{nat_tests}
+use Rattle.std.proofs.lemmas.Bool.{cond-false, cond_both, eqb-true, eqb-false}
 use Rattle.values.specs.Digits.{under, le_number}
 use Rattle.protocol.specs.Member.{Event, got_vote, got_proposal, got_block, timeout, unreadable}
 use Rattle.protocol.specs.Programs.{readable}
-use Rattle.wire.specs.declared.events.Event as code
 use Rattle.wire.specs.Bytes.{sized, event_by, event_in, part, vote_in, proposal_in}
-use Rattle.wire.specs.Meaning.{event_read}
-use Rattle.wire.proofs.Sized.{sized-is, sized_ok, sized_err, sized_cases}
+use Rattle.wire.proofs.Sized.{sized_cases}
 use Rattle.wire.proofs.Fields.{under-part, vote_fits, proposal_fits, block_fits, place_fits, timeout_fits}
 
 -- the first byte of each event, and how many bytes it has in all
@@ -22,33 +16,10 @@ pub data Sizes : ℕ → ℕ → Type 0 where
   of_block : Sizes 2 33
   of_timeout : Sizes 3 1
 
--- the first byte, by its place
-pub first_is : (bs : List ℕ) (t : ℕ) → 0 < length bs → get_or bs 0 0 ≡ t → slice_get bs 0 ≡ Some t
-first_is [] t some is = absurd (omega arith)
-first_is (b ∷ bs) t some is = ap Some is
-
-pub event_at : (bs : List ℕ) (t : ℕ) → slice_get bs 0 ≡ Some t → event_in bs ≡ event_by t bs
-unfolding event_in
-event_at [] t first = absurd (none-some t first)
-event_at (b ∷ bs) t first =
-    cond-false _ _ _ (ne_eqb (suc (length bs)) 0 (λ z. omega arith)) ∙ ap (λ n. event_by n (b ∷ bs)) (same_Some b t first)
-
 module _ (bs : List ℕ) where
-  -- another first byte
-  pub event-rest : (t : ℕ) → 3 < t → event_by t bs ≡ unreadable 0
-  event-rest t more = grind (arith, nat_tests)
-
-  -- what a first byte t asks for: n bytes in all, which are then the event e
-  module _ (t n : ℕ) (e : Event) (first : slice_get bs 0 ≡ Some t) (by : event_by t bs ≡ sized unreadable n bs e) where
-    pub event_whole : (u : Unit {0}) → ◌≡◌ {A = Result (Unit {0}) ℕ} (Ok u) (sized Err n bs (Ok tt)) → e ≡ event_in bs
-    event_whole u is = sym (event_at bs t first ∙ by ∙ sized-is unreadable n bs e (sized_ok n bs u is))
-
-    pub event_broken : (m : ℕ) (r : Result code.Event ℕ) →
-        ◌≡◌ {A = Result (Unit {0}) ℕ} (Err m) (sized Err n bs (Ok tt)) →
-        IsErrAnd r (λ x. x ≡ m) → event_read r ≡ event_in bs
-    event_broken m r is err =
-        let p = err_from_is_err_and r err in
-        rw (p.1, p.2) (sized_err unreadable n bs e m is ∙ sym (event_at bs t first ∙ by))
+  pub event_at : (t : ℕ) → eqb (length bs) 0 ≡ false → get_or bs 0 0 ≡ t → event_in bs ≡ event_by t bs
+  unfolding event_in
+  event_at t some is = cond-false _ _ _ some ∙ ap (λ n. event_by n bs) is
 
   -- what holds of each way in which bytes are read
   pub event_cases : (P : Event → Type 0) →

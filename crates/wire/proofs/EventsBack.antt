@@ -1,26 +1,27 @@
 -- Events are read back, and have one spelling. Assumes nothing.
-use Rattle.std.proofs.Common.{◌≡◌, ℕ, suc, ◌<◌, true, List, [], ◌∷◌, length, get_or, take, drop, Ok, sym, refl, ap, ◌∙◌}
+use Rattle.std.proofs.Common.{◌≡◌, ℕ, suc, ◌<◌, true, List, [], ◌∷◌, length, get_or, take, drop, sym, refl, ap, ◌∙◌}
 use Rattle.std.proofs.Common.{arith, length-drop}
 use Rattle.std.proofs.lemmas.List.{take_all, take_at, drop_more}
-use Rattle.std.proofs.lemmas.Bool.{ltb-true, false≢true}
+use Rattle.std.proofs.lemmas.Bool.{ltb-true, false≢true, ne_eqb}
 use Rattle.values.specs.Digits.{le_number, le_bytes}
 use Rattle.values.proofs.Digits.{length_digits, number_digits}
+use Rattle.values.proofs.Pieces.{Front}
 use Rattle.protocol.specs.Member.{Event, got_vote, got_proposal, got_block, timeout, unreadable, is_event}
 use Rattle.protocol.specs.Programs.{readable}
-use Rattle.wire.specs.Bytes.{Written, event_bytes, event_by, event_in, sized, part, vote_bytes, vote_in, proposal_bytes}
+use Rattle.wire.specs.Bytes.{event_bytes, event_by, event_in, sized, part, vote_bytes, vote_in, proposal_bytes}
 use Rattle.wire.specs.Bytes.{proposal_in}
 use Rattle.wire.specs.Statements.{EventsReadBack, EventsOneSpelling}
 use Rattle.wire.proofs.Sized.{sized-is}
 use Rattle.wire.proofs.Fields.{length-vote, length_proposal, under-part}
 use Rattle.wire.proofs.FieldsBack.{vote_back, proposal_back, vote-spelled, proposal_spelled, field_bytes, length_part}
-use Rattle.wire.proofs.EventIn.{first_is, event_at, event_cases}
+use Rattle.wire.proofs.EventIn.{event_at, event_cases}
 
 -- bytes of the right number are the event that their first says
 pub event-sized : (bs : List ℕ) (t n : ℕ) (e : Event) → 0 < length bs → get_or bs 0 0 ≡ t →
     event_by t bs ≡ sized unreadable n bs e →
     length bs ≡ n → event_in bs ≡ e
 event-sized bs t n e some first by long =
-    event_at bs t (first_is bs t some first) ∙ by ∙ sized-is unreadable n bs e long
+    event_at bs t (ne_eqb _ _ (λ z. omega arith)) first ∙ by ∙ sized-is unreadable n bs e long
 
 pub events_read_back : EventsReadBack
 unfolding readable is_event
@@ -67,9 +68,9 @@ events_one_spelling bs u =
     (λ first long _. whole_by_part bs 3 0 [] first long refl)
 
 -- what was written is read back
-pub written_back : (e e' : Event) (before after : List ℕ) (n : ℕ) → e ≡ e' → is_event e' ≡ true → readable e' ≡ true →
-    Written (event_bytes e) before after (Ok n) → event_in (take n after) ≡ e
-written_back e e' before after n same is fits w =
-    let bytes : take n after ≡ event_bytes e =
-    ap (take n) w.2 ∙ take_at (event_bytes e) (drop n before) n (sym w.0) in
-    ap event_in (bytes ∙ ap event_bytes same) ∙ events_read_back e' is fits ∙ sym same
+pub written_back : (e e' : Event) (was now : List ℕ) (n : ℕ) → e ≡ e' → is_event e' ≡ true → readable e' ≡ true →
+    Front was n (event_bytes e') now → event_in (take n now) ≡ e
+written_back e e' was now n same is fits front =
+    let bytes : take n now ≡ event_bytes e' =
+    ap (take n) front.is ∙ take_at (event_bytes e') (drop n was) n front.long in
+    ap event_in bytes ∙ events_read_back e' is fits ∙ sym same

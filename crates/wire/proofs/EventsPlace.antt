@@ -107,8 +107,8 @@ module _ (bs : List ℕ) (u : under 256 bs ≡ true) where
             omega (arith, s.1.1),
       )
 
-pub events-place : EventsPlace
-events-place bs n u bad =
+pub events_place : EventsPlace
+events_place bs n u bad =
     event_cases bs (λ e. e ≡ unreadable n → Ceases bs n)
     (λ none is.
     let zero : 0 ≡ n = cc in

@@ -102,3 +102,9 @@ held_proposal_fits o p r = and_from _ _ (and_from _ _ (lt-ltb _ _ p) (lt-ltb _ _
 pub held_block_fits : (x : Value) → readable (got_block (value_of x)) ≡ true
 unfolding readable
 held_block_fits x = value_fits x
+
+-- what the code holds, or read, fits
+pub ruleset fits = (held-vote_fits, held_proposal_fits, held_block_fits, timeout_fits, place_fits)
+
+-- how many bytes
+pub ruleset sizes = (length-vote, length_proposal, length_digits, length-said, length-agreed, length-append)

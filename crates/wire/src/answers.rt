@@ -58,6 +58,7 @@ impl TryFrom<u64> for Refusal {
 }
 
 // The votes that a member says on one event: never more than two.
+// Kept so: an `Option<(Vote, Option<Vote>)>` would be no plainer, and a list of its own needs the heap.
 #[derive(Clone, Copy, Debug, PartialEq, Eq)]
 pub enum Said {
     Nothing,
@@ -65,6 +66,7 @@ pub enum Said {
     Two(Vote, Vote),
 }
 
+// Kept so: a refusal is an answer with bytes of its own, not a failure, and as a Result callers would read `Ok(Err(..))`.
 #[derive(Clone, Copy, Debug, PartialEq, Eq)]
 pub enum Answer {
     // why, and at which place of the event's bytes
@@ -139,6 +141,7 @@ fn read_says(bytes: &[u8]) -> Result<Answer, usize>
 }
 
 // The answer that the bytes are, or the place at which they cease to be one.
+#[tactic(auto, unfolding(crate::specs::Bytes::answer_in))]
 pub fn read_answer(bytes: &[u8]) -> Result<Answer, usize>
     ensures is { answer_read result ≡ answer_in bytes.now }
     ensures fits { IfOk (answer_read result) (λ a. sayable a ≡ true) }
@@ -170,6 +173,7 @@ impl Said {
     }
 }
 
+#[tactic(auto, unfolding(crate::specs::Statements::votes_fit))]
 fn write_said(part: &mut [u8], said: Said)
     requires { length part.old ≡ 8 + 64 * length (said_of said) }
     ensures is { part.new ≡ said_bytes (said_of said) }
@@ -214,6 +218,7 @@ fn write_agreed(part: &mut [u8], agreed: Option<Value>)
 }
 
 // Writes the bytes of votes that are said, and of what is agreed on.
+#[tactic(auto, using(crate::proofs::Fields::sizes, crate::proofs::AnswersBack::held_says_fits))]
 fn write_says(out: &mut [u8], said: Said, agreed: Option<Value>) -> Result<usize, usize>
     ensures is { Written (answer_bytes (says (said_of said) (agreed_of agreed)))
         out.old out.new result }
@@ -230,6 +235,7 @@ fn write_says(out: &mut [u8], said: Said, agreed: Option<Value>) -> Result<usize
 
 // Writes the answer's bytes, and gives their number; or gives the number needed, and writes nothing. What is written is
 // read back as the answer.
+#[tactic(auto, using(crate::proofs::Fields::sizes))]
 pub fn write_answer(out: &mut [u8], answer: Answer) -> Result<usize, usize>
     ensures is { Written (answer_bytes (answer_of answer)) out.old out.new result }
     ensures back { IfOk result (λ n. answer_in (take n out.new) ≡ Ok (answer_of answer)) }

@@ -28,6 +28,7 @@ pub(crate) fn whole(bytes: &[u8], count: usize) -> Result<(), usize>
 }
 
 // The event that the bytes are, or the place at which they cease to be one.
+#[tactic(auto, using(crate::proofs::Fields::fits), unfolding(crate::specs::Bytes::event_in))]
 pub fn read_event(bytes: &[u8]) -> Result<Event, usize>
     ensures is { event_read result ≡ event_in bytes.now }
     ensures fits { readable (event_read result) ≡ true }
@@ -67,6 +68,7 @@ pub(crate) fn room(out: &[u8], needed: usize) -> Result<(), usize>
 
 // Writes the event's bytes, and gives their number; or gives the number needed, and writes nothing. What is written is
 // read back as the event.
+#[tactic(auto, using(crate::proofs::Fields::sizes))]
 pub fn write_event(out: &mut [u8], event: Event) -> Result<usize, usize>
     ensures is { Written (event_bytes (event_of event)) out.old out.new result }
     ensures back { IfOk result (λ n. event_in (take n out.new) ≡ event_of event) }

@@ -64,6 +64,7 @@ pub struct Proposal {
     pub value: Value,
 }
 
+#[tactic(auto, unfolding(crate::specs::Bytes::vote_in))]
 pub(crate) fn read_vote(part: &[u8]) -> Vote
     requires { length part.now ≡ 64 }
     ensures is { vote_of result ≡ vote_in part.now }
@@ -77,6 +78,7 @@ pub(crate) fn read_vote(part: &[u8]) -> Vote
     }
 }
 
+#[tactic(auto, using(crate::proofs::Fields::fits))]
 pub(crate) fn write_vote(part: &mut [u8], vote: Vote)
     requires { length part.old ≡ 64 }
     ensures is { part.new ≡ vote_bytes (vote_of vote) }
@@ -89,6 +91,7 @@ pub(crate) fn write_vote(part: &mut [u8], vote: Vote)
     write_number(&mut part[56..64], vote.from);
 }
 
+#[tactic(auto, unfolding(crate::specs::Bytes::proposal_in))]
 pub(crate) fn read_proposal(part: &[u8]) -> Proposal
     requires { length part.now ≡ 48 }
     ensures is { proposal_of result ≡ proposal_in part.now }
@@ -100,6 +103,7 @@ pub(crate) fn read_proposal(part: &[u8]) -> Proposal
     }
 }
 
+#[tactic(auto, using(crate::proofs::Fields::fits))]
 pub(crate) fn write_proposal(part: &mut [u8], proposal: Proposal)
     requires { length part.old ≡ 48 }
     ensures is { part.new ≡ proposal_bytes (proposal_of proposal) }

@@ -5,13 +5,6 @@ use Rattle.wire.specs.Bytes.{agreed_bytes}
 use Rattle.wire.specs.Meaning.{agreed_of}
 use Rattle.wire.proofs.answers.write_agreed.Goals as goal
 
-pub returns-in-None : goal.returns-in-None
-returns-in-None c =
-    let was = c.args.part.now in
-    let long = c.requires ∙ ap (λ o. 1 + 32 * length (agreed_of o)) c.in-None.is in
-    let bytes = ap (λ o. agreed_bytes (agreed_of o)) c.in-None.is in
-    record { is = front-all was 1 _ _ (front_byte was 0 (omega arith)) (omega arith) ∙ sym bytes }
-
 pub returns-in-Some : goal.returns-in-Some
 returns-in-Some c =
     let was = c.args.part.now in

@@ -1,28 +1,23 @@
-use Rattle.std.proofs.Common.{◌+◌, ◌*◌, length, sym, ap, ◌∙◌, append-nil, arith}
+use Rattle.std.proofs.Common.{◌+◌, ◌*◌, length, sym, ap, ◌∙◌, arith}
 use Rattle.values.proofs.Digits.{length_digits}
 use Rattle.values.proofs.Pieces.{front-none, front_more, front-all}
 use Rattle.wire.specs.Bytes.{said_bytes}
 use Rattle.wire.specs.Meaning.{said_of}
-use Rattle.wire.specs.Statements.{votes_fit}
-use Rattle.wire.proofs.AnswersBack.{one_fits, two_fit}
 use Rattle.wire.proofs.Fields.{length-vote, one_said, two_said}
 use Rattle.wire.proofs.answers.write_said.Goals as goal
 
-pub returns-in-One : goal.returns-in-One
-returns-in-One c =
+pub returns-in-One-clause-is : goal.returns-in-One-clause-is
+returns-in-One-clause-is c =
     let was = c.args.part.now in
     let long = c.requires ∙ ap (λ s. 8 + 64 * length (said_of s)) c.in-One.is in
     let bytes = ap (λ s. said_bytes (said_of s)) c.in-One.is ∙ one_said _ in
     let count =
     front_more was 0 _ _ (front-none was) 8 _ _ (length_digits 256 8 1) c.write_number-in-One.ensures.is in
     let vote = front_more was 8 _ _ count 64 _ _ (length-vote _) c.write_vote.ensures.is in
-    record {
-      is = front-all was 72 _ _ vote (omega arith) ∙ sym bytes;
-      fits = one_fits c.args.said _ (ap said_of c.in-One.is) c.write_vote.ensures.fits;
-    }
+    front-all was 72 _ _ vote (omega arith) ∙ sym bytes
 
-pub returns-in-Two : goal.returns-in-Two
-returns-in-Two c =
+pub returns-in-Two-clause-is : goal.returns-in-Two-clause-is
+returns-in-Two-clause-is c =
     let was = c.args.part.now in
     let long = c.requires ∙ ap (λ s. 8 + 64 * length (said_of s)) c.in-Two.is in
     let bytes = ap (λ s. said_bytes (said_of s)) c.in-Two.is ∙ two_said _ _ in
@@ -30,17 +25,4 @@ returns-in-Two c =
     front_more was 0 _ _ (front-none was) 8 _ _ (length_digits 256 8 2) c.write_number-in-Two.ensures.is in
     let first = front_more was 8 _ _ count 64 _ _ (length-vote _) c.write_vote-in-Two.ensures.is in
     let second = front_more was 72 _ _ first 64 _ _ (length-vote _) c.write_vote-in-Two-2.ensures.is in
-    record {
-      is = front-all was 136 _ _ second (omega arith) ∙ sym bytes;
-      fits =
-          two_fit c.args.said _ _ (ap said_of c.in-Two.is)
-          c.write_vote-in-Two.ensures.fits c.write_vote-in-Two-2.ensures.fits;
-    }
-
-pub returns-in-Nothing : goal.returns-in-Nothing
-unfolding votes_fit
-returns-in-Nothing c =
-    record {
-      is = c.write_number.ensures.is ∙ sym (ap (λ s. said_bytes (said_of s)) c.in-Nothing.is ∙ append-nil _);
-      fits = ap (λ s. votes_fit (said_of s)) c.in-Nothing.is;
-    }
+    front-all was 136 _ _ second (omega arith) ∙ sym bytes

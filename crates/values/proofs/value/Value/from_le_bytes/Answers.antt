@@ -1,9 +1,8 @@
-use Rattle.std.proofs.Common.{◌≡◌, ℕ, ◌<◌, [], length, map, get_or, sym, ap, ◌∙◌, rules, Fits, w8}
+use Rattle.std.proofs.Common.{◌≡◌, ℕ, ◌<◌, [], length, map, get_or, ap, ◌∙◌, rules, Fits, w8}
 use Rattle.std.specs.Simd.{first_chunks}
-use Rattle.values.specs.Digits.{number_of, le_number, digits}
+use Rattle.values.specs.Digits.{number_of, le_number}
 use Rattle.values.specs.Values.{value_of}
-use Rattle.values.proofs.Digits.{digits_number}
-use Rattle.values.proofs.Places.{under_by_places}
+use Rattle.values.proofs.Places.{bytes_back}
 use Rattle.values.proofs.Words.{by_places, word_number, words_number, length_words, word_long, mapped}
 use Rattle.values.proofs.value.Value.from_le_bytes.Goals as goal
 
@@ -21,7 +20,4 @@ returns c =
     let number = λ (i : ℕ) (p : i < 4). word_number _ _ _ (at i p) (ap (λ ws. get_or ws i []) words) (word_long 4 i bs long p) in
     let each : limbs ≡ map le_number chunks = mapped le_number chunks limbs 4 [] 0 (length_words 4 bs) items.long number in
     let is : value_of c.from.result ≡ le_number bs = ap number_of (c.from.ensures ∙ each) ∙ words_number 4 bs long in
-    record {
-      is = is;
-      back = (λ i. digits 256 (sym long i) (is i)) ∙ digits_number 256 bs (under_by_places 256 bs (λ i. (low i).fits));
-    }
+    record { is = is; back = bytes_back bs 32 _ long is low }
