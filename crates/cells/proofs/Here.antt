@@ -18,7 +18,8 @@ use Rattle.cells.proofs.Written.{same_value}
 use Rattle.cells.proofs.Chunks.{length-first_chunks, length-chunk, number_at, chunk_value}
 
 -- the blocks as k chunks of four numbers
-module _ (part : List ℕ) (k : ℕ) (v : Value) (long : 4 * k ≤ length part) (fits : (i : ℕ) → Fits w64 (get_or part i 0)) where
+module _ (part : List ℕ) (k : ℕ) (v : Value) (long : 4 * k ≤ length part)
+    (fits : (i : ℕ) → Fits w64 (get_or part i 0)) where
   abbrev chunk : ℕ → List ℕ
   chunk n = get_or (first_chunks 4 k part) n []
 
@@ -33,7 +34,9 @@ module _ (part : List ℕ) (k : ℕ) (v : Value) (long : 4 * k ≤ length part) 
       four = length-chunk 4 k n part few long
 
       value : number_of (chunk n) ≡ value_at part (4 * n)
-      value = ap number_of (four_by_places (chunk n) four) ∙ chunk_value 4 k n 0 (4 * n) part few (omega arith) (omega arith)
+      value =
+          ap number_of (four_by_places (chunk n) four)
+          ∙ chunk_value 4 k n 0 (4 * n) part few (omega arith) (omega arith)
 
       fit : (j : ℕ) → j < 4 → get_or (chunk n) j 0 < 2 ^ 64
       fit j low =

@@ -1,5 +1,6 @@
 -- What a write of a few numbers side by side leaves, and an optional value. Assumes nothing.
-use Rattle.std.proofs.Common.{refl, ◌≡◌, ℕ, ◌+◌, ◌-◌, ◌<◌, ◌≤◌, List, [], ◌∷◌, length, get_or, take, drop, set, sym, ap, ◌∙◌}
+use Rattle.std.proofs.Common.{refl, ◌≡◌, ℕ, ◌+◌, ◌-◌, ◌<◌, ◌≤◌, List, [], ◌∷◌, length, get_or, take}
+use Rattle.std.proofs.Common.{drop, set, sym, ap, ◌∙◌}
 use Rattle.std.proofs.Common.{inl, inr, Bool, true, false, cond, not, arith}
 use Rattle.std.specs.Bool.{then_some}
 use borrow.Rule.Slice.PartMut.{put_mid}

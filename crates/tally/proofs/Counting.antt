@@ -1,10 +1,10 @@
 -- Counting a row of entries is counting the votes. Assumes nothing.
-use Rattle.std.proofs.Common.{◌≡◌, ℕ, zero, suc, ◌+◌, ◌<◌, ◌≤◌, Bool, true, false, cond, not, ◌&&◌, eqb, leb, List, []}
-use Rattle.std.proofs.Common.{◌∷◌, sym, refl, ap, ◌∙◌, ⊎_elim, zero-add, add-one, arith}
+use Rattle.std.proofs.Common.{◌≡◌, ℕ, zero, suc, ◌+◌, ◌<◌, Bool, true, false, cond, not, ◌&&◌, eqb, List, []}
+use Rattle.std.proofs.Common.{◌∷◌, sym, refl, ap, ◌∙◌, ⊎_elim, zero-add, arith}
 use Rattle.std.proofs.lemmas.Bool.{and_parts, eqb-true, eq-eqb, ne_eqb, not-true, cases_Bool, cases_eq, cond-true}
 use Rattle.std.proofs.lemmas.Bool.{cond-false}
 use Rattle.std.proofs.lemmas.List.{take_all}
-use Rattle.protocol.specs.Vote.{Vote, Limits, slot_taken, is_for, count, quorum, has_quorum}
+use Rattle.protocol.specs.Vote.{Vote, Limits, slot_taken, is_for, count}
 use Rattle.protocol.specs.Member.{vote_in_range}
 use Rattle.protocol.specs.Network.{all_different, how_many}
 use Rattle.protocol.proofs.Counting.{how_many-none}
@@ -14,7 +14,7 @@ use Rattle.tally.specs.Votes.{heard_at, is_only, voted, all_in_range, Holds}
 use Rattle.tally.specs.Rows.{number_for}
 use Rattle.tally.proofs.Heard.{taken_voted, none_some}
 use Rattle.tally.proofs.Entries.{bit, number_first}
-use Rattle.std.proofs.Common.{length, get_or, take}
+use Rattle.std.proofs.Common.{length, get_or}
 
 pub how_many_same : (n : ℕ) (f g : ℕ → Bool) → ((i : ℕ) → i < n → g i ≡ f i) → how_many n g ≡ how_many n f
 unfolding how_many

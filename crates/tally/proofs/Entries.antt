@@ -1,7 +1,8 @@
 -- Rows of entries: each entry is that of the part, and the number for a value, entry by entry; and optional values as
 -- what was heard. Assumes nothing.
-use Rattle.std.proofs.Common.{◌≡◌, ℕ, zero, suc, ◌+◌, ◌*◌, ◌<◌, ◌≤◌, Bool, true, false, cond, eqb, List, [], ◌∷◌, length}
-use Rattle.std.proofs.Common.{get_or, take, sym, refl, ap, ◌∙◌, ⊎_elim, add-one, count_by, arith}
+use Rattle.std.proofs.Common.{◌≡◌, ℕ, zero, suc, ◌+◌, ◌*◌, ◌<◌, ◌≤◌, Bool, true, false, cond}
+use Rattle.std.proofs.Common.{eqb, List, [], ◌∷◌, length}
+use Rattle.std.proofs.Common.{get_or, take, sym, refl, ap, ◌∙◌, ⊎_elim, add-one, arith}
 use Rattle.std.proofs.Common.{Some, None, Option}
 use Rattle.std.specs.Bool.{then_some}
 use Rattle.std.specs.Option as option

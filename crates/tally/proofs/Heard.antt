@@ -1,19 +1,18 @@
 -- Votes in their entries: which slots are taken, none heard, one more heard. Assumes nothing.
 use Rattle.std.proofs.Common.{◌≡◌, ℕ, ◌+◌, ◌*◌, ◌<◌, ◌≤◌, Bool, true, false, cond, not, ◌&&◌, ◌||◌, eqb, ◌⊎◌, List, []}
-use Rattle.std.proofs.Common.{◌∷◌, length, get_or, set, sym, refl, ap, ◌∙◌, inl, inr, ⊎_elim, arith}
+use Rattle.std.proofs.Common.{◌∷◌, get_or, sym, refl, ap, ◌∙◌, inl, inr, ⊎_elim, arith}
 use Rattle.std.proofs.lemmas.Bool.{both_ways, and_parts, and_from, and_right, or_from, not-true, eq-eqb, cases_Bool}
 use Rattle.std.proofs.lemmas.Bool.{cases_order, cond-true, cond-false}
-use Rattle.std.proofs.lemmas.List.{get_or-set_same}
 use Rattle.protocol.specs.Vote.{Vote, Limits, same_slot, same_vote, slot_taken, is_vote_in}
 use Rattle.protocol.specs.Member.{is_some, vote_in_range}
 use Rattle.protocol.specs.Network.{all_different}
 use Rattle.protocol.proofs.Votes.{same_of, same_test, slot_of, vote_of}
 use Rattle.protocol.proofs.Ranges.{ranged}
-use Rattle.cells.specs.Cells.{value_at, Only}
+use Rattle.cells.specs.Cells.{Only}
 use Rattle.tally.specs.Layout.{row_of, slot_in_range}
 use Rattle.tally.specs.Votes.{heard_at, entry_of, is_only, is_of, voted, all_in_range, Holds}
 use Rattle.tally.proofs.Index.{same_entry, slot_good}
-use Rattle.cells.proofs.Written.{same_value, only_wider, only_both, only_set}
+use Rattle.cells.proofs.Written.{same_value}
 
 some_cond : (b : Bool) (x : ℕ) (r : List ℕ) → is_some (cond b (x ∷ []) r) ≡ (b || is_some r)
 unfolding is_some
@@ -93,22 +92,6 @@ same_heard part now e n only other =
     apart : {m : ℕ} (j : ℕ) → j < 5 → m ≡ 8 * e + j → (m < 8 * n) ⊎ (8 * n + 5 ≤ m)
     apart {m} j low at =
         ⊎_elim (λ less. inl (omega arith)) (λ more. inr (omega arith)) (cases_ne e n other)
-
--- the flag and then the value are written
-module _ (part now : List ℕ) (at x : ℕ) (within : 8 * at + 8 ≤ length part)
-    (only : Only (8 * at + 1) (8 * at + 1 + 4) (set part (8 * at) 1) now) (is : value_at now (8 * at + 1) ≡ x) where
-  pub heard_written : heard_at now at ≡ x ∷ []
-  heard_written =
-      let flag : get_or now (8 * at) 0 ≡ 1 =
-      only (8 * at) (inl (omega arith)) ∙ get_or-set_same part (8 * at) 1 0 (omega arith) in
-      cond-false _ _ _ (ap (λ n. eqb n 0) flag) ∙ ap (λ y. y ∷ []) is
-
-  pub heard_only : Only (8 * at) (8 * at + 5) part now
-  heard_only =
-      only_both (8 * at) (8 * at + 5) part (set part (8 * at) 1) now
-      (only_wider (8 * at) (8 * at + 1) (8 * at) (8 * at + 5) part _ (only_set (8 * at) 1 part) (omega arith)
-      (omega arith))
-      (only_wider (8 * at + 1) (8 * at + 1 + 4) (8 * at) (8 * at + 5) _ now only (omega arith) (omega arith))
 
 or_off : (a b : Bool) → b ≡ false → (a || b) ≡ a
 or_off true b e = refl

@@ -9,7 +9,6 @@ use Rattle.protocol.specs.Member.{vote_in_range}
 use Rattle.protocol.specs.Programs.{memory_size}
 use Rattle.protocol.proofs.Votes.{Same}
 use Rattle.protocol.proofs.Ranges.{Ranged, ranged, range_test, steps_test}
-use Rattle.tally.specs.Votes.{entry_of}
 use Rattle.cells.specs.Proposals.{proposals_size}
 use Rattle.cells.specs.Blocks.{blocks_size}
 use Rattle.tally.specs.Layout.{slots, slot_place, row_of, slot_in_range, votes_size}
@@ -173,11 +172,6 @@ pub slot_good : (l : Limits) (v : Vote) → vote_in_range l v ≡ true →
 slot_good l v good =
     let r : Ranged l v = ranged l v good in
     slot_test l _ _ _ r.kinds r.from_1 r.periods r.first_step r.later_step r.steps
-
--- the entry of a vote in range
-pub vote-within : (l : Limits) (v : Vote) → vote_in_range l v ≡ true → 8 * entry_of l v + 8 ≤ votes_size l
-vote-within l v good =
-    entry_within l v.kind v.period v.step (slot_good l v good) v.from (ranged l v good).member
 
 -- the slots of soft and cert votes are in range with their period
 pub alone_good : (l : Limits) (k p : ℕ) → k < 2 → 1 ≤ p → p ≤ l.periods → slot_in_range l k p 0 ≡ true

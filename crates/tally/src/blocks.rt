@@ -1,4 +1,5 @@
 // Adding a block for which there is room.
+// Kept so: the blocks' count stands in the member's header, apart from the blocks: lent memory is laid out so.
 ghost use Rattle.std.specs.Prelude.{◌≡◌, ◌+◌, ◌*◌, ◌≤◌, false, length};
 ghost use Rattle.values.specs.Digits.{number_of};
 ghost use Rattle.protocol.specs.Member.{is_in, add_block};

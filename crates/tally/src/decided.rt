@@ -1,4 +1,5 @@
 // What a quorum is for: the chosen value of a period, and the certified value.
+// Kept so: the blocks' count stands in the member's header, apart from the blocks: lent memory is laid out so.
 ghost use Rattle.std.specs.Prelude.{◌≡◌, ◌*◌, ◌≤◌, length};
 ghost use Rattle.limits.specs.Limits.{limits_of};
 ghost use Rattle.protocol.specs.Promises.{all};
@@ -65,8 +66,10 @@ impl HeardVotes<'_> {
     // Is a quorum certain of this value in some period?
     pub fn certified(self, value: Value) -> bool
         ensures is { (vs : Votes) → Holds (limits_of all self.entry.limits) self.entry.votes.now vs →
-            result ≡ certified_by (limits_of all self.entry.limits) (number_of value.limbs) self.entry.limits.periods vs }
+            result
+            ≡ certified_by (limits_of all self.entry.limits) (number_of value.limbs) self.entry.limits.periods vs }
     {
+        // Kept so: `any` over the periods was tried, and neither `search` nor `grind` found that it is `certified_by`.
         for period in 1..=self.limits.periods {
             if self.certified_in(period, value) {
                 return true;

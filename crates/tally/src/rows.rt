@@ -33,6 +33,7 @@ pub(crate) fn count_in(row: &[[u64; 8]], value: Value) -> u64
 }
 
 // Is a quorum of the row for this value? Counts no further than that.
+// Kept so: by a rule of the project this is a loop that is left by a label.
 pub(crate) fn quorum_in(row: &[[u64; 8]], limits: Limits, value: Value) -> bool
     ensures is { result ≡ nat_le (quorum limits.members) (number_for (number_of value.limbs) row.now) }
 {

@@ -15,7 +15,7 @@ use limits::Limits;
 use values::Value;
 use wire::Kind;
 
-// In range for the limits it came with, by type: so nobody has to look again.
+// In range for the limits that it came with, by type: so nobody has to look again.
 #[derive(Clone, Copy)]
 pub(crate) struct Slot {
     pub(crate) limits: Limits,
@@ -52,7 +52,8 @@ impl Slot {
         requires votes { length votes.now ≡ votes_size (limits_of all self.limits) }
         ensures long { length result.now ≡ self.limits.members }
         ensures entries { (i : ℕ) → i < self.limits.members → heard_at (slice_index_or result.now i []) 0
-            ≡ heard_at votes.now (row_of (limits_of all self.limits) (kind_number self.kind) self.period self.step + i) }
+            ≡ heard_at votes.now
+            (row_of (limits_of all self.limits) (kind_number self.kind) self.period self.step + i) }
     {
         let (entries, _) = votes.as_chunks::<8>();
         let first = self.first() as usize;
@@ -81,8 +82,9 @@ impl Slot {
     // Is a quorum of it for this value?
     pub(crate) fn quorum_for(self, votes: &[u64], value: Value) -> bool
         requires votes { length votes.now ≡ votes_size (limits_of all self.limits) }
-        ensures is { (vs : Votes) → Holds (limits_of all self.limits) votes.now vs → result
-            ≡ has_quorum (limits_of all self.limits) (kind_number self.kind) self.period self.step (number_of value.limbs) vs }
+        ensures is { (vs : Votes) → Holds (limits_of all self.limits) votes.now vs →
+            result ≡ has_quorum (limits_of all self.limits) (kind_number self.kind) self.period self.step
+            (number_of value.limbs) vs }
     {
         quorum_in(self.row(votes), self.limits, value)
     }

@@ -9,6 +9,7 @@ returns c =
     let k = length c.args.blocks.now / 4 in
     record {
       is = c.contains.ensures.value
-          ∙ (λ i. list_any (λ b. pointwise eqb b (c.limbs.ensures.is i)) (take c.args.count (c.as_chunks.ensures.front i)))
+          ∙ (λ i.
+          list_any (λ b. pointwise eqb b (c.limbs.ensures.is i)) (take c.args.count (c.as_chunks.ensures.front i)))
           ∙ any_here c.args.blocks.now k c.args.value (omega arith) (search rules) c.args.count (omega arith);
     }

@@ -5,7 +5,6 @@ use Rattle.protocol.specs.Promises.{all}
 use Rattle.protocol.proofs.Ranges.{ranged}
 use Rattle.limits.specs.Limits.{limits_of}
 use Rattle.wire.specs.Meaning.{kind_number, vote_of}
-use Rattle.values.proofs.Limbs.{value_below}
 use Rattle.tally.proofs.KindOf.{is_kind, no_kind}
 use Rattle.tally.proofs.InRange.{not_in_range, first_range, later_range}
 use Rattle.tally.proofs.ranges.vote_in_range.Goals as goal
@@ -22,40 +21,45 @@ returns-then-not-contains c =
     let l = c.args.limits in
     let out : ((v.period < 1) ⊎ (l.periods < v.period)) ⊎ (l.members ≤ v.from) = search rules in
     record {
-      is = not_in_range _ _ (λ r. ⊎_elim (λ e. ⊎_elim (λ low. omega (arith, (ranged _ _ r).from_1)) (λ high. omega (arith, (ranged _ _ r).periods)) e) (λ past. omega (arith, (ranged _ _ r).member)) out);
+      is = not_in_range _ v (λ good.
+          let r = ranged _ v good in
+          elim out [
+            | inl (inl low) ↦ omega (arith, r.from_1)
+            | inl (inr high) ↦ omega (arith, r.periods)
+            | inr past ↦ omega (arith, r.member)
+          ]);
     }
 
 pub returns-in-Soft : goal.returns-in-Soft
 returns-in-Soft c =
     let v : Vote = vote_of c.args.vote in
-    let x = c.args.vote.value in
     let kind = is_kind _ v.kind c.in-Ok.kind (sym c.try_from.ensures ∙ c.in-Ok.is) in
     let first : v.kind < next =
-    elim c.in-Soft.is [ inl e ↦ omega (arith, kind, ap kind_number e) | inr e ↦ omega (arith, kind, ap kind_number e) ] in
+    elim c.in-Soft.is [
+      | inl e ↦ omega (arith, kind, ap kind_number e)
+      | inr e ↦ omega (arith, kind, ap kind_number e)
+    ] in
     record {
-      is = first_range (limits_of all c.args.limits) v (search rules) (search rules) (search rules)
-          (value_below x.limbs x.four x.fit) first;
+      is = first_range (limits_of all c.args.limits) c.args.vote (search rules) (search rules) (search rules) first;
     }
 
 pub returns-in-Next : goal.returns-in-Next
 returns-in-Next c =
     let v : Vote = vote_of c.args.vote in
-    let x = c.args.vote.value in
     let kind : v.kind ≡ next = is_kind _ v.kind _ (sym c.try_from.ensures ∙ c.in-Ok.is ∙ ap Ok c.in-Next.is) in
     record {
-      is = later_range (limits_of all c.args.limits) v (search rules) (search rules) (search rules)
-          (value_below x.limbs x.four x.fit) c.is_later_step.result c.is_later_step.ensures.is
+      is = later_range (limits_of all c.args.limits) c.args.vote (search rules) (search rules) (search rules)
+          c.is_later_step.result c.is_later_step.ensures.is
           (omega (arith, kind)) (omega (arith, kind)) (λ h. absurd (omega (arith, kind, h)));
     }
 
 pub returns-then-is_zero : goal.returns-then-is_zero
 returns-then-is_zero c =
     let v : Vote = vote_of c.args.vote in
-    let x = c.args.vote.value in
     let kind : v.kind ≡ next_none = is_kind _ v.kind _ (sym c.try_from.ensures ∙ c.in-Ok.is ∙ ap Ok c.in-NextNone.is) in
     record {
-      is = later_range (limits_of all c.args.limits) v (search rules) (search rules) (search rules)
-          (value_below x.limbs x.four x.fit) c.is_later_step-then-is_zero.result c.is_later_step-then-is_zero.ensures.is
+      is = later_range (limits_of all c.args.limits) c.args.vote (search rules) (search rules) (search rules)
+          c.is_later_step-then-is_zero.result c.is_later_step-then-is_zero.ensures.is
           (omega (arith, kind)) (omega (arith, kind)) (λ h. eqb-true v.value 0
           (sym c.is_zero.ensures.is ∙ c.if-is_zero.true));
     }
@@ -65,6 +69,7 @@ returns-else-is_zero c =
     let v : Vote = vote_of c.args.vote in
     let kind : v.kind ≡ next_none = is_kind _ v.kind _ (sym c.try_from.ensures ∙ c.in-Ok.is ∙ ap Ok c.in-NextNone.is) in
     record {
-      is = c.if-is_zero.false ∙ not_in_range _ v (λ r. eqb-false v.value 0 (sym c.is_zero.ensures.is ∙ c.if-is_zero.false)
+      is = c.if-is_zero.false
+          ∙ not_in_range _ v (λ r. eqb-false v.value 0 (sym c.is_zero.ensures.is ∙ c.if-is_zero.false)
           ((ranged _ v r).no_value kind));
     }

@@ -1,4 +1,4 @@
-use Rattle.std.proofs.Common.{◌≡◌, ◌+◌, ◌-◌, true, false, sym, ap, ◌∙◌, arith}
+use Rattle.std.proofs.Common.{◌≡◌, ◌+◌, ◌-◌, sym, ap, ◌∙◌, arith}
 use Rattle.limits.specs.Limits.{limits_of}
 use Rattle.protocol.specs.Promises.{all}
 use Rattle.protocol.specs.Vote.{cert, has_quorum}

@@ -1,6 +1,6 @@
 use Rattle.cells.specs.Cells.{listed}
 use Rattle.tally.proofs.Entries.{listed_then}
-use Rattle.std.proofs.Common.{rules, ℕ, ◌≡◌, ◌*◌, ◌<◌, ◌≤◌, ◌⊎◌, true, false, ◌&&◌, sym, ap, ◌∙◌, ⊎_elim, arith}
+use Rattle.std.proofs.Common.{rules, ℕ, ◌≡◌, ◌*◌, ◌<◌, ◌≤◌, ◌⊎◌, ◌&&◌, sym, ap, ◌∙◌, ⊎_elim, arith}
 use Rattle.limits.specs.Limits.{limits_of}
 use Rattle.protocol.specs.Promises.{all}
 use Rattle.protocol.specs.Vote.{soft, count, has_quorum}
@@ -26,7 +26,8 @@ returns-then-not-contains c =
 pub invariant_of-slot : goal.invariant_of-slot
 invariant_of-slot c =
     record {
-      in_range = alone_good (limits_of all c.args.self.limits) 0 c.args.period (omega arith) (search rules) (search rules);
+      in_range =
+          alone_good (limits_of all c.args.self.limits) 0 c.args.period (omega arith) (search rules) (search rules);
     }
 
 pub returns : goal.returns

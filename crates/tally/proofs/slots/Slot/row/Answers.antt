@@ -1,6 +1,5 @@
-use Rattle.std.proofs.Common.{◌≡◌, ◌+◌, ◌-◌, ◌/◌, length, get_or, take, drop, [], ap, ◌∙◌, arith}
+use Rattle.std.proofs.Common.{◌+◌, ◌-◌, ◌/◌, length, get_or, drop, [], ap, ◌∙◌, arith}
 use Rattle.std.proofs.lemmas.List.{get_or-take, get_or-drop}
-use Rattle.std.specs.Simd.{first_chunks}
 use Rattle.tally.specs.Votes.{heard_at}
 use Rattle.tally.proofs.Entries.{chunk_heard}
 use Rattle.tally.proofs.slots.Slot.row.Goals as goal
@@ -16,5 +15,6 @@ returns-clause-entries c =
     (get_or-take (first + m - first) (drop first c.as_chunks.result.0.now) i [] (omega arith)
     ∙ get_or-drop first c.as_chunks.result.0.now i []
     ∙ ap (λ es. get_or es (first + i) []) c.as_chunks.ensures.front)
-    ∙ chunk_heard part (length part / 8) (first + i) (omega (arith, low, c.requires.votes, c.first-first.ensures.within))
+    ∙ chunk_heard part (length part / 8) (first + i)
+    (omega (arith, low, c.requires.votes, c.first-first.ensures.within))
     ∙ ap (λ n. heard_at part (n + i)) c.first-first.ensures.is

@@ -25,7 +25,8 @@ overflow_add-result c =
     let l = v.limits in
     let slots : l.periods * (2 * l.steps + 2) ≤ 32 * 18 = mul-le _ _ 32 18 l.few_periods (omega arith) in
     let most : l.members * (l.periods * (2 * l.steps + 2)) ≤ 64 * 576 = mul-le _ _ 64 576 l.few_members slots in
-    let within : row_end c.first.result l = subst (row_end c.first.result) c.slot.ensures.limits c.first.ensures.within in
+    let within : row_end c.first.result l =
+    subst (row_end c.first.result) c.slot.ensures.limits c.first.ensures.within in
     let r = ranged (vote_limits v) (valid_vote v) v.in_range in
     omega (arith, within, most, r.member, small_step (vote_limits v) (valid_vote v) r, l.few_steps)
 

@@ -20,7 +20,3 @@ invariant_of-result c =
       in_range = ap (λ k. slot_in_range (vote_limits v) k v.vote.period v.vote.step) (sym kind)
           ∙ slot_good (vote_limits v) (valid_vote v) v.in_range;
     }
-
-pub returns-clause-kind : goal.returns-clause-kind
-returns-clause-kind c =
-    sym (is_kind _ c.args.self.vote.kind c.in-Ok.kind (sym c.try_from.ensures ∙ c.in-Ok.is))
