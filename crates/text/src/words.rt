@@ -12,6 +12,7 @@ pub fn cut(text: &[u8], sep: u8) -> Option<(&[u8], &[u8])>
 }
 
 // Is this the word of this name?
+// Kept so: std says of slices that their elements are equal; here it is said once that the words are the same.
 pub fn is_word(word: &[u8], name: &[u8]) -> bool
     ensures is { Decides result (word.now ≡ name.now) }
 {
