@@ -1,6 +1,9 @@
 -- Honest members have seats of their own, so their memory lies apart.
 use Rattle.std.proofs.Common.{◌≡◌, ℕ, zero, suc, ◌+◌, ◌*◌, ◌<◌, ◌≤◌, Bool, true, false, cond, not, List, sym, refl, ap}
-use Rattle.std.proofs.Common.{◌∙◌, inl, inr, le_trans, mul-le-mul_right, suc-mul, arith}
+use Rattle.std.proofs.Common.{[], ◌∷◌, length, add-one, map, length-append, ◌∙◌, inl, inr, le_trans, mul-le-mul_right, suc-mul, arith}
+use Rattle.std.specs.List.{filter, range_with_len}
+use Rattle.std.proofs.lemmas.List.{map-id}
+use Rattle.std.proofs.lemmas.List.FromFn.{filter_of_map_range_with_len_more}
 use Rattle.std.proofs.lemmas.Nat.{mul-le}
 use Rattle.std.proofs.lemmas.Bool.{cases_order, cases_Bool}
 use Rattle.protocol.specs.Vote.{Limits}
@@ -23,6 +26,25 @@ seat-honest faulty n h = seat_more faulty n ∙ ap (λ (b : Bool). cond (not b) 
 
 pub seat_faulty : (faulty : ℕ → Bool) (n : ℕ) → faulty n ≡ true → seat faulty (suc n) ≡ seat faulty n
 seat_faulty faulty n h = seat_more faulty n ∙ ap (λ (b : Bool). cond (not b) 1 0 + seat faulty n) h ∙ omega arith
+
+-- a chain over the numbers below n counts those that pass
+one_more : (b : Bool) (n : ℕ) → length (cond b (n ∷ []) []) ≡ cond b 1 0
+one_more true n = refl
+one_more false n = refl
+
+counted : (p : ℕ → Bool) (n : ℕ) → length (filter p (map (λ i. i) (range_with_len 0 n))) ≡ how_many n p
+unfolding how_many
+counted p zero = refl
+counted p (suc n) =
+    let below : List ℕ = filter p (map (λ i. i) (range_with_len 0 n)) in
+    let long =
+    ap (λ (k : ℕ). length (filter p (map (λ i. i) (range_with_len 0 k)))) (sym (add-one n))
+    ∙ ap length (filter_of_map_range_with_len_more p (λ i. i) 0 n n (omega arith))
+    ∙ length-append below (cond (p n) (n ∷ []) []) in
+    omega (arith, long, one_more (p n) n, counted p n)
+
+pub how_many_pass : (p : ℕ → Bool) (n : ℕ) → length (filter p (range_with_len 0 n)) ≡ how_many n p
+how_many_pass p n = ap (λ (xs : List ℕ). length (filter p xs)) (sym (map-id (range_with_len 0 n))) ∙ counted p n
 
 seat_grows : (faulty : ℕ → Bool) (i j : ℕ) → i ≤ j → seat faulty i ≤ seat faulty j
 seat_grows faulty i zero h = let e : i ≡ zero = omega arith in rw e (omega arith)

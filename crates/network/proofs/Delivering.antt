@@ -1,6 +1,6 @@
 -- An event that is delivered to an honest member of a network that runs.
 use Rattle.std.proofs.Common.{◌≡◌, ℕ, ◌+◌, ◌<◌, Bool, true, false, ◌||◌, List, Ok, Err, Result, sym, refl, ap, ◌∙◌}
-use Rattle.std.proofs.Common.{subst}
+use Rattle.std.proofs.Common.{subst, Some, None, Option, MatchOption, arith, ◌≤◌}
 use mathlib.Core.Logic.{∥∥₁_map}
 use Rattle.std.specs.List.{between}
 use Rattle.protocol.specs.Vote.{Vote, Limits}
@@ -11,10 +11,12 @@ use Rattle.protocol.specs.Promises.{all}
 use Rattle.limits.specs.Limits.{limits_of}
 use Rattle.limits.specs.declared.bounds.Limits as code
 use Rattle.wire.specs.declared.answers.Answer.{Answer}
-use Rattle.wire.specs.Meaning.{answer_of}
+use Rattle.wire.specs.Meaning.{answer_of, agreed_of}
+use Rattle.values.specs.Values.{value_of}
+use Rattle.values.specs.declared.value.Value.{Value}
 use Rattle.member.specs.Calls.{ByCall, BySaid}
 use Rattle.member.specs.declared.calls.NotOpen.{NotOpen}
-use Rattle.network.specs.Calls.{Delivered}
+use Rattle.network.specs.Calls.{Delivered, NotAgreed, AgreedBy, AgreedOn}
 use Rattle.network.specs.Memory.{heard_in, may_come, may_happen, Agreement}
 use Rattle.network.specs.Parts.{OnlyPart}
 use Rattle.network.specs.Running.{Running}
@@ -36,6 +38,18 @@ agreement-stands k faulty mem few run = record {
   agreed_certified = λ i p a b vs li gi e c. number_of_run run
       (λ r. (agreement k faulty mem few r).agreed_certified i p a b vs li gi e c);
 }
+
+-- what one honest member agreed on is what all did who agreed; or none agreed
+pub agreed_on : (k : code.Limits) (faulty : ℕ → Bool) (mem : List ℕ) → Agreement (limits_of all k) faulty mem →
+    (r : Option Value) → MatchOption r
+    ((i : ℕ) → 0 ≤ i → i < k.members → NotAgreed (limits_of all k) faulty mem i)
+    (λ x. (i : ℕ) × AgreedBy (limits_of all k) faulty mem i (value_of x)) →
+    AgreedOn (limits_of all k) faulty mem (agreed_of r)
+agreed_on k faulty mem stands None none = λ i low. none i (omega arith) low low
+agreed_on k faulty mem stands (Some x) (i, by) = (
+  (i, by),
+  λ j y other. stands.one_agreed j i y (value_of x) other.member by.member other.honest by.honest other.is by.is,
+)
 
 -- A VOTE THAT CAN COME
 

@@ -1,7 +1,8 @@
 -- Opening a member within its limits succeeds.
-use Rattle.std.proofs.Common.{◌≡◌, ℕ, ◌+◌, ◌*◌, ◌<◌, ◌≤◌, Bool, true, false, cond, List, length, Some, None, Err}
+use Rattle.std.proofs.Common.{◌≡◌, ℕ, ◌+◌, ◌*◌, ◌<◌, ◌≤◌, Bool, true, false, cond, List, length, Some, None, Ok, Err, Result}
 use Rattle.std.proofs.Common.{Option, sym, refl, ap, ◌∙◌, subst, inl, inr, suc-mul, add-one, arith}
 use Rattle.std.specs.List.{between}
+use Rattle.std.specs.Result.{IsOk}
 use Rattle.std.proofs.lemmas.Bool.{and_from, le-leb, cases_order, both_ways}
 use Rattle.protocol.specs.Vote as protocol
 use Rattle.protocol.specs.Programs.{memory_size}
@@ -35,7 +36,7 @@ in_range k =
     (is_within 8 k.steps k.some_step k.few_steps)
     (is_within 256 k.blocks k.some_block k.few_blocks)
 
-pub no_error : (k : Limits) (me : ℕ) (mem new : List ℕ) (e : OpenError) → me < k.members →
+no_error : (k : Limits) (me : ℕ) (mem new : List ℕ) (e : OpenError) → me < k.members →
     memory_size (limits_of all k) ≤ length mem →
     ByOpen k.members k.periods k.steps k.blocks me mem new (Err e) → ⊥
 no_error k me mem new (OutOfRange limit) low long h =
@@ -44,6 +45,11 @@ no_error k me mem new (OutOfRange limit) low long h =
 no_error k me mem new NotMember low long h = omega (arith, h.1.0)
 no_error k me mem new (TooShort n) low long h = omega
     (arith, h.1.1.0, h.1.1.1.0 (limits_of all k) (numbers_of k))
+
+pub opens : (k : Limits) (me : ℕ) (mem new : List ℕ) (r : Result (Unit {0}) OpenError) → me < k.members →
+    memory_size (limits_of all k) ≤ length mem → ByOpen k.members k.periods k.steps k.blocks me mem new r → IsOk r
+opens k me mem new (Ok x) low long h = refl
+opens k me mem new (Err e) low long h = absurd (no_error k me mem new e low long h)
 
 -- ONE MEMBER AFTER THE OTHER
 

@@ -72,6 +72,10 @@ pub record AgreedBy (l : Limits) (faulty : ℕ → Bool) (mem : List ℕ) (i x :
   pub honest : faulty i ≡ false
   pub is : agreed_in (memory_of l faulty i mem) ≡ x ∷ []
 
+-- member i is faulty, or it has not agreed
+abbrev pub NotAgreed : Limits → (ℕ → Bool) → List ℕ → ℕ → Type 0
+NotAgreed l faulty mem i = i < l.members → faulty i ≡ false → agreed_in (memory_of l faulty i mem) ≡ []
+
 -- no honest member agreed yet; or some did on this value, and none on another
 abbrev pub AgreedOn : Limits → (ℕ → Bool) → List ℕ → List ℕ → Type 0
 AgreedOn l faulty mem [] = (i : ℕ) → i < l.members → faulty i ≡ false → agreed_in (memory_of l faulty i mem) ≡ []

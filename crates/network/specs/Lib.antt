@@ -5,3 +5,4 @@ pub mod Memory
 pub mod Running
 pub mod Calls
 pub mod Begins
+pub mod Errors

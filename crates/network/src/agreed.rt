@@ -1,6 +1,9 @@
 // What honest members agreed on, and where each stands.
+ghost use Rattle.std.specs.Prelude.{MatchOption};
+ghost use Rattle.values.specs.Values.{value_of};
 ghost use Rattle.wire.specs.Meaning.{agreed_of};
-ghost use Rattle.network.specs.Calls.{LooksAt, AllAgreed, AgreementStands};
+ghost use Rattle.network.specs.Calls.{LooksAt, AllAgreed, AgreementStands, AgreedBy, NotAgreed};
+ghost use Rattle.network.specs.Calls.{limits_in, faulty_in, memory_in};
 
 use super::state::Network;
 use member::Member;
@@ -14,9 +17,15 @@ impl Network {
         if member >= self.limits.members || self.faulty.has(member) {
             return None;
         }
-        let (start, end) = self.span(member);
-        let all = self.memory.as_slice();
-        member::look(&all[start..end])
+        member::look(self.part(member))
+    }
+
+    // What a member agreed on; none if it has not yet, or is no honest member.
+    fn agreed_by(&self, member: u64) -> Option<Value>
+        ensures is { MatchOption result (NotAgreed (limits_in self.now) (faulty_in self.now) (memory_in self.now) member)
+            (λ x. AgreedBy (limits_in self.now) (faulty_in self.now) (memory_in self.now) member (value_of x)) }
+    {
+        self.look(member)?.agreed
     }
 
     // What honest members agreed on: none yet, or the one value. There are never two, of members or of certificates.
@@ -24,14 +33,6 @@ impl Network {
         ensures is { AllAgreed self.now (agreed_of result) }
         ensures stands { AgreementStands self.now }
     {
-        for member in 0..self.limits.members {
-            let Some(x) = self.look(member) else {
-                continue;
-            };
-            if let Some(value) = x.agreed {
-                return Some(value);
-            }
-        }
-        None
+        (0..self.limits.members).find_map(|member| self.agreed_by(member))
     }
 }

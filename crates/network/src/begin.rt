@@ -23,7 +23,7 @@ fn open_all(memory: &mut Vec<u64>, limits: Limits, faulty: Members)
     for member in 0..limits.members {
         if !faulty.has(member) {
             let end = start + size;
-            open_in(memory, start, end, limits, member);
+            open_in(memory, start..end, limits, member);
             start = end;
         }
     }

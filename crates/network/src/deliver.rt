@@ -21,12 +21,7 @@ impl Network {
         if vote.from >= self.limits.members {
             return false;
         }
-        let (start, end) = self.span(vote.from);
-        let all = self.memory.as_slice();
-        match member::said(&all[start..end], vote) {
-            Ok(said) => said,
-            Err(_) => unreachable(),
-        }
+        member::said(self.part(vote.from), vote).unwrap()
     }
 
     fn can_happen(&self, event: Event) -> bool
@@ -35,9 +30,7 @@ impl Network {
     {
         match event {
             Event::Vote(vote) => self.can_come(vote),
-            Event::Proposal(_) => true,
-            Event::Block(_) => true,
-            Event::Timeout => true,
+            Event::Proposal(_) | Event::Block(_) | Event::Timeout => true,
         }
     }
 
@@ -56,10 +49,7 @@ impl Network {
         if !self.can_happen(event) {
             return Err(DeliverError::NotSaid);
         }
-        let (start, end) = self.span(to);
-        match take_in(&mut self.memory, start, end, event) {
-            Ok(answer) => Ok(answer),
-            Err(_) => unreachable(),
-        }
+        let span = self.span(to);
+        Ok(take_in(&mut self.memory, span, event).unwrap())
     }
 }

@@ -40,12 +40,6 @@ impl Members {
         ensures is { result ≡ seat (has self.bits) end }
         ensures few { result ≤ end }
     {
-        let mut count = 0;
-        for member in 0..end {
-            if !self.has(member) {
-                count += 1;
-            }
-        }
-        count
+        (0..end).filter(|member| !self.has(*member)).count() as u64
     }
 }

@@ -10,45 +10,43 @@ ghost use Rattle.network.specs.Parts.{OnlyPart};
 
 use limits::Limits;
 use member::NotOpen;
+use std::ops::Range;
 use wire::{Answer, Event};
 
 // Hands an event to the member in this part.
 pub(crate) fn take_in(
     memory: &mut Vec<u64>,
-    start: usize,
-    end: usize,
+    span: Range<usize>,
     event: Event,
 ) -> Result<Answer, NotOpen>
-    requires order { start ≤ end }
-    requires within { end ≤ vec_len memory.old }
-    ensures is { ByCall (between start end memory.old.items) (event_of event)
-        (between start end memory.new.items) result }
-    ensures only { OnlyPart start end memory.old.items memory.new.items }
+    requires order { span.start ≤ span.end }
+    requires within { span.end ≤ vec_len memory.old }
+    ensures is { ByCall (between span.start span.end memory.old.items) (event_of event)
+        (between span.start span.end memory.new.items) result }
+    ensures only { OnlyPart span.start span.end memory.old.items memory.new.items }
     ensures len { vec_len memory.new ≡ vec_len memory.old }
 {
     let all = memory.as_mut_slice();
-    member::take(&mut all[start..end], event)
+    member::take(&mut all[span], event)
 }
 
 // Opens a member in this part, which is as long as its limits ask for.
-pub(crate) fn open_in(memory: &mut Vec<u64>, start: usize, end: usize, limits: Limits, me: u64)
-    requires size { end ≡ start + memory_size (limits_of all limits) }
-    requires within { end ≤ vec_len memory.old }
+pub(crate) fn open_in(memory: &mut Vec<u64>, span: Range<usize>, limits: Limits, me: u64)
+    requires size { span.end ≡ span.start + memory_size (limits_of all limits) }
+    requires within { span.end ≤ vec_len memory.old }
     requires me { me < limits.members }
-    ensures is { Opened (limits_of all limits) me (between start end memory.new.items) }
-    ensures only { OnlyPart start end memory.old.items memory.new.items }
+    ensures is { Opened (limits_of all limits) me (between span.start span.end memory.new.items) }
+    ensures only { OnlyPart span.start span.end memory.old.items memory.new.items }
     ensures len { vec_len memory.new ≡ vec_len memory.old }
 {
     let all = memory.as_mut_slice();
-    match member::open(
-        &mut all[start..end],
+    member::open(
+        &mut all[span],
         limits.members,
         limits.periods,
         limits.steps,
         limits.blocks,
         me,
-    ) {
-        Ok(()) => (),
-        Err(_) => unreachable(),
-    }
+    )
+    .unwrap();
 }

@@ -11,16 +11,16 @@ returns c =
     let part : List ℕ = c.take.new.memory in
     record {
       is = subst (λ (new : List ℕ). ByCall
-          (between c.args.start c.args.end (vec_items c.args.memory.now)) (event_of c.args.event) new
+          (between c.args.span.start c.args.span.end (vec_items c.args.memory.now)) (event_of c.args.event) new
           c.take.result)
-          (sym (part-is c.args.start c.args.end c.args.memory.now.len (vec_items c.args.memory.now)
+          (sym (part-is c.args.span.start c.args.span.end c.args.memory.now.len (vec_items c.args.memory.now)
           all part _
           c.requires.order c.requires.within c.as_mut_slice-all.ensures.value c.as_mut_slice-all.ensures.len
           (omega arith)))
-          (subst (λ (old : List ℕ). ByCall (between c.args.start c.args.end old) (event_of c.args.event)
+          (subst (λ (old : List ℕ). ByCall (between c.args.span.start c.args.span.end old) (event_of c.args.event)
           part c.take.result)
           c.as_mut_slice-all.ensures.value c.take.ensures.is);
-      only = part-only c.args.start c.args.end c.args.memory.now.len (vec_items c.args.memory.now)
+      only = part-only c.args.span.start c.args.span.end c.args.memory.now.len (vec_items c.args.memory.now)
           all part _
           c.requires.order c.requires.within c.as_mut_slice-all.ensures.value c.as_mut_slice-all.ensures.len
           (omega arith);

@@ -1,27 +1,12 @@
-use Rattle.std.proofs.Common.{ℕ, ◌+◌, sym, refl, ap, ◌∙◌, add-one, arith}
-use Rattle.protocol.specs.Network.{how_many}
-use Rattle.network.proofs.Apart.{seat-honest, seat_faulty}
-use Rattle.network.specs.Members.{has}
+use Rattle.std.proofs.Common.{rules, ◌∙◌}
+use Rattle.std.proofs.lemmas.Iterator.{YieldsList-from_range}
+use Rattle.std.proofs.lemmas.Iterator.Consumers.{count_from_yields_List, YieldsList-from_filter}
+use Rattle.std.proofs.Common.{tests, arith}
+use Rattle.network.proofs.Apart.{how_many_pass}
 use Rattle.network.proofs.members.Members.others_below.Goals as goal
-use Rattle.network.proofs.members.Members.others_below.Goals.{then-not-has, else-not-has}
 
-pub loop-member-init : goal.loop-member-init
-unfolding how_many
-loop-member-init c = (refl, omega arith)
-
-pub loop-member-preserved : goal.loop-member-preserved
-loop-member-preserved c =
-    elim c.if-not-has.branch [
-      | then-not-has w ↦ (
-        w.count-is ∙ ap (λ (n : ℕ). n + 1) c.loop-member.invariant.0 ∙ add-one _
-            ∙ sym (rw add-one (seat-honest (has c.args.self.bits) c.loop-member.member
-            (sym c.has.ensures.is ∙ w.if-not-has.true))),
-        omega (arith, w.count-is),
-      )
-      | else-not-has w ↦ (
-        w.count-is ∙ c.loop-member.invariant.0
-            ∙ sym (rw add-one (seat_faulty (has c.args.self.bits) c.loop-member.member
-            (sym c.has.ensures.is ∙ w.if-not-has.false))),
-        omega (arith, w.count-is),
-      )
-    ]
+pub returns-clause-is : goal.returns-clause-is
+returns-clause-is c =
+    count_from_yields_List _ _ c.count.ensures.ran (YieldsList-from_filter _ _
+    (YieldsList-from_range 0 c.args.end c.args.end (cc) (omega arith)) c.filter.ensures.closure (λ x r q k. search (rules, tests)))
+    ∙ how_many_pass _ c.args.end

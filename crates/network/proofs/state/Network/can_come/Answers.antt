@@ -1,14 +1,13 @@
-use Rattle.std.proofs.Common.{ℕ, List, Ok, vec_items, sym, ◌∙◌, subst}
+use Rattle.std.proofs.Common.{ℕ, List, vec_items, sym, ◌∙◌, subst}
 use Rattle.protocol.specs.Vote.{Vote}
 use Rattle.protocol.specs.Promises.{all}
 use Rattle.limits.specs.Limits.{limits_of}
 use Rattle.wire.specs.Meaning.{vote_of}
-use Rattle.member.specs.Calls.{BySaid, IsNotOpen}
+use Rattle.member.specs.Calls.{BySaid}
 use Rattle.network.specs.Members.{has}
 use Rattle.network.proofs.Agreeing.{nobody_said}
 use Rattle.network.proofs.Delivering.{said_comes}
-use Rattle.network.proofs.Showing.{open_there}
-use Rattle.network.proofs.Spans.{span_is}
+use Rattle.network.proofs.Showing.{by_said}
 use Rattle.network.proofs.state.Network.can_come.Goals as goal
 
 pub returns-then-vote-self : goal.returns-then-vote-self
@@ -21,24 +20,19 @@ returns-then-vote-self c = record {
 pub returns : goal.returns
 returns c =
     let v : Vote = vote_of c.args.vote in
+    let said = subst (λ (part : List ℕ). BySaid part v c.said.result) c.part.ensures.is c.said.ensures.is in
     record {
       is = said_comes c.args.self.now.limits (has c.args.self.now.faulty.bits)
           (vec_items c.args.self.now.memory)
-          c.args.self.now.runs v c.in-Ok.said c.if-vote-self.false
+          c.args.self.now.runs v c.unwrap.result c.if-vote-self.false
           (sym c.has.ensures.is ∙ c.if-has.false)
-          (subst (λ (part : List ℕ). BySaid part v (Ok c.in-Ok.said))
-          (span_is _ _ _ _ _ _ c.span-start.ensures.start c.span-start.ensures.size
-          c.as_slice-all.ensures.value)
-          c.in-Ok.ensures.is);
+          (subst (BySaid _ v) c.unwrap.ensures said);
     }
 
-pub unreachable-requires : goal.unreachable-requires
-unreachable-requires c =
-    open_there (limits_of all c.args.self.now.limits) (has c.args.self.now.faulty.bits)
+pub unwrap-requires : goal.unwrap-requires
+unwrap-requires c =
+    by_said (limits_of all c.args.self.now.limits) (has c.args.self.now.faulty.bits)
     (vec_items c.args.self.now.memory)
     c.args.self.now.runs c.args.vote.from c.if-vote-self.false
-    (sym c.has.ensures.is ∙ c.if-has.false)
-    (subst IsNotOpen
-    (span_is _ _ _ _ _ _ c.span-start.ensures.start c.span-start.ensures.size
-    c.as_slice-all.ensures.value)
-    c.in-Err.ensures.is)
+    (sym c.has.ensures.is ∙ c.if-has.false) (vote_of c.args.vote) c.said.result
+    (subst (λ (part : List ℕ). BySaid part (vote_of c.args.vote) c.said.result) c.part.ensures.is c.said.ensures.is)

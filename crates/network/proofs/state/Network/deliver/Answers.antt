@@ -3,10 +3,10 @@ use Rattle.protocol.specs.Vote.{Limits}
 use Rattle.protocol.specs.Promises.{all}
 use Rattle.limits.specs.Limits.{limits_of}
 use Rattle.wire.specs.Meaning.{event_of}
-use Rattle.member.specs.Calls.{IsNotOpen}
+use Rattle.member.specs.Calls.{ByCall}
 use Rattle.network.specs.Members.{has}
-use Rattle.network.proofs.Delivering.{at_span, called-there, only-there, runs_then, delivered}
-use Rattle.network.proofs.Showing.{open_there}
+use Rattle.network.proofs.Delivering.{called-there, only-there, runs_then, delivered}
+use Rattle.network.proofs.Showing.{by_call}
 use Rattle.network.proofs.state.Network.deliver.Goals as goal
 
 pub invariant_of-self : goal.invariant_of-self
@@ -22,23 +22,22 @@ invariant_of-self c =
           c.args.to
           c.if-to-self.false (sym c.has.ensures.is ∙ c.if-has.false) (event_of c.args.event)
           (sym c.can_happen.ensures.is ∙ c.if-not-can_happen.false)
-          (only-there l faulty c.args.to _ _ c.span-start.ensures.start c.span-start.ensures.size
+          (only-there l faulty c.args.to _ _ c.span-span.ensures.start c.span-span.ensures.size
           mem new c.take_in.ensures.only)
           c.take_in.result
-          (called-there l faulty c.args.to _ _ c.span-start.ensures.start c.span-start.ensures.size
+          (called-there l faulty c.args.to _ _ c.span-span.ensures.start c.span-span.ensures.size
           mem new _ _ c.take_in.ensures.is);
     }
 
-pub unreachable-requires : goal.unreachable-requires
-unreachable-requires c =
+pub unwrap-requires : goal.unwrap-requires
+unwrap-requires c =
     let l : Limits = limits_of all c.args.self.now.limits in
     let faulty : ℕ → Bool = has c.args.self.now.faulty.bits in
     let mem : List ℕ = vec_items c.args.self.now.memory in
-    open_there l faulty mem c.args.self.now.runs c.args.to c.if-to-self.false
-    (sym c.has.ensures.is ∙ c.if-has.false)
-    (subst IsNotOpen (at_span l faulty c.args.to _ _ c.span-start.ensures.start c.span-start.ensures.size
-    mem)
-    c.in-Err.ensures.is.0)
+    by_call l faulty mem c.args.self.now.runs c.args.to c.if-to-self.false
+    (sym c.has.ensures.is ∙ c.if-has.false) (event_of c.args.event) _ c.take_in.result
+    (called-there l faulty c.args.to _ _ c.span-span.ensures.start c.span-span.ensures.size
+    mem (vec_items c.take_in.new.memory) _ c.take_in.result c.take_in.ensures.is)
 
 pub returns : goal.returns
 returns c =
@@ -51,10 +50,11 @@ returns c =
           c.args.to
           c.if-to-self.false (sym c.has.ensures.is ∙ c.if-has.false) (event_of c.args.event)
           (sym c.can_happen.ensures.is ∙ c.if-not-can_happen.false)
-          (only-there l faulty c.args.to _ _ c.span-start.ensures.start c.span-start.ensures.size mem new
-          c.take_in.ensures.only) c.in-Ok.answer
-          (called-there l faulty c.args.to _ _ c.span-start.ensures.start c.span-start.ensures.size mem
+          (only-there l faulty c.args.to _ _ c.span-span.ensures.start c.span-span.ensures.size mem new
+          c.take_in.ensures.only) c.unwrap.result
+          (called-there l faulty c.args.to _ _ c.span-span.ensures.start c.span-span.ensures.size mem
           new _
-          (Ok c.in-Ok.answer) c.in-Ok.ensures.is);
+          (Ok c.unwrap.result)
+          (subst (ByCall _ (event_of c.args.event) _) c.unwrap.ensures c.take_in.ensures.is));
       kept = (refl, (refl, c.take_in.ensures.len));
     }

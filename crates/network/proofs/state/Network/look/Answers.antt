@@ -5,13 +5,11 @@ use Rattle.member.specs.Calls.{IsNotOpen, Looks}
 use Rattle.member.specs.Header.{Header}
 use Rattle.network.specs.Members.{has}
 use Rattle.network.proofs.Showing.{by_look}
-use Rattle.network.proofs.Spans.{span_is}
 use Rattle.network.proofs.state.Network.look.Goals as goal
 
 pub returns : goal.returns
 returns c =
-    let there = span_is _ _ _ _ _ _ c.span-start.ensures.start c.span-start.ensures.size
-    c.as_slice-all.ensures.value in
+    let there = c.part.ensures.is in
     record {
       is = by_look (limits_of all c.args.self.now.limits) (has c.args.self.now.faulty.bits)
           (vec_items c.args.self.now.memory)
