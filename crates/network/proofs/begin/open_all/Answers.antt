@@ -29,16 +29,13 @@ overflow_add-end c =
           c.loop-member.invariant.1.1,
     )
 
-pub open_in-requires : goal.open_in-requires
-open_in-requires c = record {
-  size = ap (λ (n : ℕ). c.loop-member.start + n) c.memory-size.ensures.is;
-  within = room_left (limits_of all c.args.limits) (has c.args.faulty.bits) c.loop-member.member
-      (vec_len c.loop-member.memory) (vec_len c.args.memory.now) _ _ c.loop-member.invariant.0
-      c.memory-size.ensures.is
-      (sym c.has.ensures.is ∙ c.if-not-has.true) c.loop-member-test.true c.requires.room
-      c.loop-member.invariant.1.1;
-  me = c.loop-member-test.true;
-}
+pub open_in-requires-clause-within : goal.open_in-requires-clause-within
+open_in-requires-clause-within c =
+    room_left (limits_of all c.args.limits) (has c.args.faulty.bits) c.loop-member.member
+    (vec_len c.loop-member.memory) (vec_len c.args.memory.now) _ _ c.loop-member.invariant.0
+    c.memory-size.ensures.is
+    (sym c.has.ensures.is ∙ c.if-not-has.true) c.loop-member-test.true c.requires.room
+    c.loop-member.invariant.1.1
 
 pub loop-member-preserved : goal.loop-member-preserved
 loop-member-preserved c =
@@ -68,9 +65,3 @@ loop-member-preserved c =
             ),
           )
     ]
-
-pub returns : goal.returns
-returns c = record {
-  is = λ i low good. c.loop-member.invariant.1.0 i (omega (arith, c.loop-member-test.false)) good;
-  len = c.loop-member.invariant.1.1;
-}

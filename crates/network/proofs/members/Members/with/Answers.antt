@@ -1,13 +1,10 @@
-use Rattle.std.proofs.Common.{◌*◌, ◌%◌, ◌^◌, mod-lt, arith}
+use Rattle.std.proofs.Common.{◌*◌, ◌%◌, ◌^◌, mod-lt}
 use Rattle.std.proofs.lemmas.Nat.{or_lt, pow_pos}
 use Rattle.network.proofs.Bits.{has_with}
 use Rattle.network.proofs.members.Members.with.Goals as goal
 
-pub returns : goal.returns
-returns c = record {
-  is = λ h i. has_with c.args.self.bits c.args.member i h;
-  same = λ h. absurd (omega arith);
-}
+pub returns-clause-is : goal.returns-clause-is
+returns-clause-is c h i = has_with c.args.self.bits c.args.member i h
 
 pub invariant_of-result : goal.invariant_of-result
 invariant_of-result c =

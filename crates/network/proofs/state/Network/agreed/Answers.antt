@@ -1,9 +1,7 @@
-use Rattle.std.proofs.Common.{rules, tests, ℕ, Bool, List, vec_items}
+use Rattle.std.proofs.Common.{rules, tests, ℕ, Bool, List}
 use Rattle.protocol.specs.Vote.{Limits}
-use Rattle.protocol.specs.Promises.{all}
-use Rattle.limits.specs.Limits.{limits_of}
 use Rattle.values.specs.Values.{value_of}
-use Rattle.network.specs.Members.{has}
+use Rattle.network.specs.Calls.{limits_in, faulty_in, memory_in}
 use Rattle.network.specs.Memory.{Agreement}
 use Rattle.network.specs.Calls.{AgreedBy, NotAgreed}
 use Rattle.network.proofs.Delivering.{agreement-stands, agreed_on}
@@ -12,9 +10,9 @@ use Rattle.network.proofs.state.Network.agreed.Goals as goal
 
 pub returns : goal.returns
 returns c =
-    let l : Limits = limits_of all c.args.self.now.limits in
-    let faulty : ℕ → Bool = has c.args.self.now.faulty.bits in
-    let mem : List ℕ = vec_items c.args.self.now.memory in
+    let l : Limits = limits_in c.args.self.now in
+    let faulty : ℕ → Bool = faulty_in c.args.self.now in
+    let mem : List ℕ = memory_in c.args.self.now in
     let stands : Agreement l faulty mem =
     agreement-stands c.args.self.now.limits faulty mem c.args.self.now.few c.args.self.now.runs in
     record {

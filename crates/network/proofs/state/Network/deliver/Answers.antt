@@ -1,19 +1,17 @@
 use Rattle.std.proofs.Common.{ℕ, Bool, List, Ok, vec_items, sym, refl, ◌∙◌, subst, arith}
 use Rattle.protocol.specs.Vote.{Limits}
-use Rattle.protocol.specs.Promises.{all}
-use Rattle.limits.specs.Limits.{limits_of}
 use Rattle.wire.specs.Meaning.{event_of}
 use Rattle.member.specs.Calls.{ByCall}
-use Rattle.network.specs.Members.{has}
+use Rattle.network.specs.Calls.{limits_in, faulty_in, memory_in}
 use Rattle.network.proofs.Delivering.{called-there, only-there, runs_then, delivered}
 use Rattle.network.proofs.Showing.{by_call}
 use Rattle.network.proofs.state.Network.deliver.Goals as goal
 
 pub invariant_of-self : goal.invariant_of-self
 invariant_of-self c =
-    let l : Limits = limits_of all c.args.self.now.limits in
-    let faulty : ℕ → Bool = has c.args.self.now.faulty.bits in
-    let mem : List ℕ = vec_items c.args.self.now.memory in
+    let l : Limits = limits_in c.args.self.now in
+    let faulty : ℕ → Bool = faulty_in c.args.self.now in
+    let mem : List ℕ = memory_in c.args.self.now in
     let new : List ℕ = vec_items c.take_in.new.memory in
     record {
       few = c.args.self.now.few;
@@ -31,9 +29,9 @@ invariant_of-self c =
 
 pub unwrap-requires : goal.unwrap-requires
 unwrap-requires c =
-    let l : Limits = limits_of all c.args.self.now.limits in
-    let faulty : ℕ → Bool = has c.args.self.now.faulty.bits in
-    let mem : List ℕ = vec_items c.args.self.now.memory in
+    let l : Limits = limits_in c.args.self.now in
+    let faulty : ℕ → Bool = faulty_in c.args.self.now in
+    let mem : List ℕ = memory_in c.args.self.now in
     by_call l faulty mem c.args.self.now.runs c.args.to c.if-to-self.false
     (sym c.has.ensures.is ∙ c.if-has.false) (event_of c.args.event) _ c.take_in.result
     (called-there l faulty c.args.to _ _ c.span-span.ensures.start c.span-span.ensures.size
@@ -41,9 +39,9 @@ unwrap-requires c =
 
 pub returns : goal.returns
 returns c =
-    let l : Limits = limits_of all c.args.self.now.limits in
-    let faulty : ℕ → Bool = has c.args.self.now.faulty.bits in
-    let mem : List ℕ = vec_items c.args.self.now.memory in
+    let l : Limits = limits_in c.args.self.now in
+    let faulty : ℕ → Bool = faulty_in c.args.self.now in
+    let mem : List ℕ = memory_in c.args.self.now in
     let new : List ℕ = vec_items c.take_in.new.memory in
     record {
       is = delivered c.args.self.now.limits faulty mem new c.args.self.now.few c.args.self.now.runs

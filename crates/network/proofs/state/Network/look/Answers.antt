@@ -1,9 +1,7 @@
-use Rattle.std.proofs.Common.{ℕ, List, IfSome, vec_items, sym, ◌∙◌, subst, MatchOption}
-use Rattle.protocol.specs.Promises.{all}
-use Rattle.limits.specs.Limits.{limits_of}
+use Rattle.std.proofs.Common.{ℕ, List, IfSome, sym, ◌∙◌, subst, MatchOption}
 use Rattle.member.specs.Calls.{IsNotOpen, Looks}
 use Rattle.member.specs.Header.{Header}
-use Rattle.network.specs.Members.{has}
+use Rattle.network.specs.Calls.{limits_in, faulty_in, memory_in}
 use Rattle.network.proofs.Showing.{by_look}
 use Rattle.network.proofs.state.Network.look.Goals as goal
 
@@ -11,8 +9,8 @@ pub returns : goal.returns
 returns c =
     let there = c.part.ensures.is in
     record {
-      is = by_look (limits_of all c.args.self.now.limits) (has c.args.self.now.faulty.bits)
-          (vec_items c.args.self.now.memory)
+      is = by_look (limits_in c.args.self.now) (faulty_in c.args.self.now)
+          (memory_in c.args.self.now)
           c.args.self.now.runs c.args.member c.if-member-self.false
           (sym c.has.ensures.is ∙ c.if-has.false) c.look.result
           (subst (λ (part : List ℕ). MatchOption c.look.result (IsNotOpen part) (Looks part)) there c.look.ensures.is)
