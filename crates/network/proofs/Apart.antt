@@ -100,19 +100,6 @@ pub room_is : (l : Limits) (faulty : ℕ → Bool) (n size : ℕ) → n ≡ seat
 room_is l faulty n size is-n is-size = ap (λ (k : ℕ). k * size) is-n
     ∙ ap (λ (k : ℕ). seat faulty l.members * k) is-size
 
--- so many numbers are few
-pub size_small : (k : code.Limits) → memory_size (limits_of all k) ≤ 296256
-size_small k =
-    let slots : 2 * k.steps + 2 ≤ 18 = omega (arith, k.few_steps) in
-    let periods : k.periods * (2 * k.steps + 2) ≤ 576 = mul-le _ _ 32 18 k.few_periods slots in
-    let members : k.members * (k.periods * (2 * k.steps + 2)) ≤ 36864 = mul-le _ _ 64 576 k.few_members
-    periods in
-    omega (arith, members, k.few_periods, k.few_blocks)
-
-pub span_fits : (k : code.Limits) (seat : ℕ) → seat ≤ 64 →
-    seat * memory_size (limits_of all k) + memory_size (limits_of all k) ≤ 19256640
-span_fits k seat h = omega (arith, mul-le seat (memory_size (limits_of all k)) 64 296256 h (size_small k), size_small k)
-
 -- a change of one honest member's memory leaves that of the others
 pub memory_apart : (l : Limits) (faulty : ℕ → Bool) (i j : ℕ) (xs ys : List ℕ) → faulty i ≡ false → faulty j ≡ false →
     (j ≡ i → ⊥) →
