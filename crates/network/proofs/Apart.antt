@@ -4,14 +4,10 @@ use Rattle.std.proofs.Common.{[], ◌∷◌, length, add-one, map, length-append
 use Rattle.std.specs.List.{filter, range_with_len}
 use Rattle.std.proofs.lemmas.List.{map-id}
 use Rattle.std.proofs.lemmas.List.FromFn.{filter_of_map_range_with_len_more}
-use Rattle.std.proofs.lemmas.Nat.{mul-le}
 use Rattle.std.proofs.lemmas.Bool.{cases_order, cases_Bool}
 use Rattle.protocol.specs.Vote.{Limits}
 use Rattle.protocol.specs.Network.{how_many}
 use Rattle.protocol.specs.Programs.{memory_size}
-use Rattle.protocol.specs.Promises.{all}
-use Rattle.limits.specs.Limits.{limits_of}
-use Rattle.limits.specs.declared.bounds.Limits as code
 use Rattle.network.specs.Parts.{OnlyPart}
 use Rattle.network.specs.Seats.{seat, start_of, memory_of, room_for}
 use Rattle.network.proofs.Spans.{part_apart}
