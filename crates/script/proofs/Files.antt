@@ -1,8 +1,10 @@
 -- The first line of a file, and those after it.
-use Rattle.std.proofs.Common.{◌≡◌, ℕ, List, [], ◌∷◌, length, refl, ap, ◌∙◌, arith}
+use Rattle.std.proofs.Common.{◌≡◌, ℕ, List, [], ◌∷◌, length, refl, ap, ◌∙◌, arith, Option, Some, None, MatchOption, sym}
+use Rattle.std.specs.Borrow.{Bor}
+use Rattle.std.specs.Option.{unwrap_or}
 use Rattle.text.specs.Words.{pieces}
 use Rattle.text.proofs.Cuts.{not_one_piece}
-use Rattle.script.specs.Files.{lines_from, file_lines}
+use Rattle.script.specs.Files.{lines_from, file_lines, FirstLine}
 
 -- an empty text has none
 pub no_line : (text : List ℕ) → length text ≡ 0 → file_lines text ≡ []
@@ -27,3 +29,13 @@ pub last_line_is : (text : List ℕ) → (length text ≡ 0 → ⊥) → pieces 
 unfolding lines_from
 last_line_is [] some e = absurd (some refl)
 last_line_is (c ∷ cs) some e = ap lines_from e
+
+-- the first line, whether a line feed ends it or not
+pub first_line_is : (text : List ℕ) (r : Option (Bor (List ℕ) × Bor (List ℕ))) (whole : Bor (List ℕ) × Bor (List ℕ)) →
+    (length text ≡ 0 → ⊥) → whole.0.now ≡ text → whole.1.now ≡ [] →
+    MatchOption r (pieces 10 text ≡ text ∷ []) (λ x. pieces 10 text ≡ x.0.now ∷ pieces 10 x.1.now) →
+    FirstLine text (Some (unwrap_or r whole))
+first_line_is text (Some x) whole some line rest is = line_at text x.0.now x.1.now is
+first_line_is text None whole some line rest is =
+    last_line_is text some is
+    ∙ ap (λ (xs : List ℕ × List ℕ). xs.0 ∷ file_lines xs.1) (λ k. (sym line k, sym rest k))

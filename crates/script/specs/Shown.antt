@@ -1,30 +1,29 @@
 -- The text of a play that is printed, and what is promised of it. Assumes nothing: definitions and statements.
-use Rattle.std.specs.Prelude.{◌≡◌, ℕ, ◌^◌, ◌<◌, true, List, ◌∷◌, ◌++◌, Some, codes, Option, MatchOption}
+use Rattle.std.specs.Prelude.{◌≡◌, ℕ, ◌^◌, ◌<◌, true, List, ◌∷◌, ◌++◌, Some, Ok, Err, codes, Option, MatchOption, Result}
 use Rattle.text.specs.Words.{pieces}
 use Rattle.protocol.specs.Member.{Event, is_event}
 use Rattle.protocol.specs.Programs.{readable}
 use Rattle.wire.specs.Meaning.{event_of, answer_of}
 use Rattle.wire.specs.declared.events.Event as wire
+use Rattle.wire.specs.declared.answers.Answer.{Answer}
+use Rattle.network.specs.declared.errors.DeliverError.{DeliverError}
+use Rattle.network.specs.Errors.{deliver_error_text}
 use Rattle.lines.specs.Between.{spaced}
 use Rattle.text.specs.Decimals.{spelled}
 use Rattle.lines.specs.Answers.{answer_line, agreed_text}
 use Rattle.script.specs.Reads.{delivery_words, ReadsDelivery}
-use Rattle.script.specs.declared.shown.Outcome.{Outcome}
-use Rattle.script.specs.declared.shown.Outcome.TheVariants.{Answered, NotSaid, Faulty, NotMember}
 
 -- the parts of the answer in one line, or why there is none
-abbrev pub outcome_text : Outcome → List ℕ
-outcome_text (Answered a) = answer_line (answer_of a)
-outcome_text NotSaid = codes "not said"
-outcome_text Faulty = codes "faulty"
-outcome_text NotMember = codes "not a member"
+abbrev pub outcome_text : Result Answer DeliverError → List ℕ
+outcome_text (Ok a) = answer_line (answer_of a)
+outcome_text (Err e) = deliver_error_text e
 
 -- the text of its line
 abbrev pub delivery_text : ℕ → Event → List ℕ
 delivery_text i e = spaced (delivery_words i e)
 
 -- `I EVENT: ` and what came of it
-abbrev pub played_text : ℕ → Event → Outcome → List ℕ
+abbrev pub played_text : ℕ → Event → Result Answer DeliverError → List ℕ
 played_text i e o = delivery_text i e ++ (codes ": " ++ outcome_text o)
 
 -- `member I: period P, step S, ` and what it agreed on, none or one
@@ -47,5 +46,5 @@ DeliveriesOneSpelling =
 -- Cut at its first colon, what is printed of a delivery gives its line, and what came of it after a space.
 abbrev pub PlayedHasDelivery : Type 0
 PlayedHasDelivery =
-    (i : ℕ) (e : Event) (o : Outcome) → is_event e ≡ true →
+    (i : ℕ) (e : Event) (o : Result Answer DeliverError) → is_event e ≡ true →
     pieces 58 (played_text i e o) ≡ delivery_text i e ∷ pieces 58 (codes " " ++ outcome_text o)

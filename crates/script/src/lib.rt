@@ -6,7 +6,7 @@ mod shown;
 mod stands;
 
 pub use reads::{FaultyError, first_line, read_delivery, read_faulty};
-pub use shown::{MemberLine, Outcome, PlayedLine};
+pub use shown::{MemberLine, PlayedLine};
 pub use stands::{
     deliveries_one_spelling_stands, deliveries_read_back_stands, played_has_delivery_stands,
 };

@@ -14,10 +14,7 @@ pub fn first_line(text: &[u8]) -> Option<(&[u8], &[u8])>
     if text.is_empty() {
         return None;
     }
-    match cut(text, b'\n') {
-        Some((line, rest)) => Some((line, rest)),
-        None => Some((text, b"")),
-    }
+    Some(cut(text, b'\n').unwrap_or((text, b"")))
 }
 
 // Why a line names no faulty member.
@@ -43,10 +40,7 @@ pub fn read_faulty(line: &[u8]) -> Result<u64, FaultyError>
     if !is_word(name, b"faulty") {
         return Err(FaultyError::NotFaulty);
     }
-    match number(member) {
-        Some(member) => Ok(member),
-        None => Err(FaultyError::NotNumber),
-    }
+    number(member).ok_or(FaultyError::NotNumber)
 }
 
 // To which number which event comes, by a line `I EVENT`; none if it is no such line.
