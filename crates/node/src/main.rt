@@ -2,15 +2,17 @@
 // goes to standard output at once.
 #![tactic(auto)]
 
-use anyhow::anyhow;
+use anyhow::{Context, anyhow};
 use limits::{Limit, Limits};
 use lines::{AnswerLines, read_line};
 use member::{OpenError, call, open};
-use std::env;
-use std::io::Read;
+use std::io::{BufRead, BufReader, Read};
 use std::process::ExitCode;
+use std::{env, io};
 use text::number;
 use wire::write_event;
+
+const USAGE: &str = "usage: node MEMBERS PERIODS STEPS BLOCKS ME";
 
 // No event's line is longer; what is longer is refused without being kept.
 const LONGEST: usize = 512;
@@ -26,90 +28,52 @@ fn answer(rt: &HostRuntime, memory: &mut Vec<u64>, line: &[u8], at: u64) -> anyh
     let Some(event) = read_line(line) else {
         return refuse(rt, at);
     };
-    let mut bytes = [0u8; 65];
-    let Ok(length) = write_event(&mut bytes, event) else {
-        return Err(anyhow!("an event has no more than 65 bytes"));
-    };
-    if length > 65 {
-        return Err(anyhow!("an event has no more than 65 bytes"));
-    }
-    match call(memory.as_mut_slice(), &bytes[0..length]) {
-        Ok(answer) => {
-            let text = AnswerLines(answer);
-            print!(rt; "{text}")?;
-            Ok(())
-        }
-        Err(_) => Err(anyhow!("the memory holds no member")),
-    }
+    // Kept so: from a line to an event, to its bytes, to `call`, which is what everything is proved of.
+    let mut bytes = [0; 65];
+    let length = write_event(&mut bytes, event).unwrap();
+    let answer = call(memory.as_mut_slice(), &bytes[..length]).map_err(|_| anyhow!(
+        "the memory holds no member"
+    ))?;
+    print!(rt; "{}", AnswerLines(answer))?;
+    Ok(())
 }
 
-// A member in its memory, and the line that is being read.
-#[derive(Drop)]
-struct Node {
-    memory: Vec<u64>,
-    line: Vec<u8>,
-    // the line is too long for an event
-    long: bool,
-    // how many lines came before it
-    at: u64,
+// The next line without its line feed, or as much of it as shows that it is too long; false where the input has ended. A
+// last line without its line feed is a line too.
+fn read_one<R: BufRead>(input: &mut R, line: &mut Vec<u8>) -> io::Result<bool> {
+    line.clear();
+    let count = input
+        .by_ref()
+        .take(LONGEST as u64 + 1)
+        .read_until(b'\n', line)?;
+    if line.last() == Some(&b'\n') {
+        line.pop();
+    } else if line.len() > LONGEST {
+        input.skip_until(b'\n')?;
+    }
+    Ok(count > 0)
 }
 
-impl Node {
-    // One byte more of the input.
-    fn take(&mut self, rt: &HostRuntime, byte: u8) -> anyhow::Result<()> {
-        if byte == b'\n' {
-            return self.end_line(rt);
+// Answers each line of the input at once, up to its end.
+fn play(rt: &HostRuntime, memory: &mut Vec<u64>) -> anyhow::Result<()> {
+    let mut input = BufReader::new(rt.alloc(), rt.stdin())?;
+    let mut line = Vec::new(rt.alloc());
+    // Kept so: a count stands for `while`, since nothing says that the input ends.
+    for at in 0..u64::MAX {
+        if !read_one(&mut input, &mut line)? {
+            break;
         }
-        if self.line.len() < LONGEST {
-            self.line.push(byte)?;
-        } else {
-            self.long = true;
-        }
-        Ok(())
-    }
-
-    fn end_line(&mut self, rt: &HostRuntime) -> anyhow::Result<()> {
-        let at = self.at;
-        self.at = at.saturating_add(1);
-        if self.long {
+        if line.len() > LONGEST {
             refuse(rt, at)?;
         } else {
-            answer(rt, &mut self.memory, self.line.as_slice(), at)?;
+            answer(rt, memory, line.as_slice(), at)?;
         }
-        self.line.clear();
-        self.long = false;
-        Ok(())
     }
-
-    // The input ends: a last line without its line feed is a line too.
-    fn finish(&mut self, rt: &HostRuntime) -> anyhow::Result<()> {
-        if self.line.len() > 0 {
-            return self.end_line(rt);
-        }
-        Ok(())
-    }
-
-    // What there is of the input now; false at its end.
-    fn read_some(&mut self, rt: &HostRuntime) -> anyhow::Result<bool> {
-        let mut buffer = [0u8; 4096];
-        let count = rt.stdin().read(&mut buffer)?;
-        for byte in &buffer[0..count] {
-            self.take(rt, *byte)?;
-        }
-        Ok(count > 0)
-    }
-
-    fn run(&mut self, rt: &HostRuntime) -> anyhow::Result<()> {
-        for _ in 0..u64::MAX {
-            if !self.read_some(rt)? {
-                break;
-            }
-        }
-        self.finish(rt)
-    }
+    Ok(())
 }
 
 // What is asked for at opening.
+#[derive(Clone, Copy)]
 struct Asked {
     members: u64,
     periods: u64,
@@ -120,39 +84,24 @@ struct Asked {
 
 // The next argument as a number.
 fn argument(args: &mut env::Args) -> anyhow::Result<u64> {
-    let Some(word) = args.next() else {
-        return Err(anyhow!("usage: node MEMBERS PERIODS STEPS BLOCKS ME"));
-    };
-    match number(word.as_bytes()) {
-        Some(n) => Ok(n),
-        None => Err(anyhow!("usage: node MEMBERS PERIODS STEPS BLOCKS ME, each a number")),
-    }
+    let word = args.next().context(USAGE)?;
+    number(word.as_bytes()).context(format_args!("{USAGE}, each a number"))
 }
 
 fn arguments(rt: &HostRuntime) -> anyhow::Result<Asked> {
     let mut args = env::args(rt)?;
     let _ = args.next();
-    let members = argument(&mut args)?;
-    let periods = argument(&mut args)?;
-    let steps = argument(&mut args)?;
-    let blocks = argument(&mut args)?;
-    let me = argument(&mut args)?;
-    if let Some(_) = args.next() {
-        return Err(anyhow!("usage: node MEMBERS PERIODS STEPS BLOCKS ME"));
+    let asked = Asked {
+        members: argument(&mut args)?,
+        periods: argument(&mut args)?,
+        steps: argument(&mut args)?,
+        blocks: argument(&mut args)?,
+        me: argument(&mut args)?,
+    };
+    if args.next().is_some() {
+        return Err(anyhow!("{USAGE}"));
     }
-    Ok(Asked {
-        members,
-        periods,
-        steps,
-        blocks,
-        me,
-    })
-}
-
-// The memory that the limits ask for.
-fn lend(rt: &HostRuntime, size: u64) -> anyhow::Result<Vec<u64>> {
-    let memory = vec![in rt.alloc(); 0u64; size as usize]?;
-    Ok(memory)
+    Ok(asked)
 }
 
 fn why(error: OpenError) -> anyhow::Error {
@@ -175,21 +124,12 @@ fn run(rt: &HostRuntime) -> anyhow::Result<()> {
         blocks,
         me,
     } = arguments(rt)?;
-    let size = match Limits::new(members, periods, steps, blocks) {
-        Ok(limits) => limits.memory(),
-        Err(limit) => return Err(why(OpenError::OutOfRange(limit))),
-    };
-    let mut memory = lend(rt, size)?;
-    if let Err(error) = open(memory.as_mut_slice(), members, periods, steps, blocks, me) {
-        return Err(why(error));
-    }
-    let mut node = Node {
-        memory,
-        line: Vec::new(rt.alloc()),
-        long: false,
-        at: 0,
-    };
-    node.run(rt)
+    let limits = Limits::new(members, periods, steps, blocks).map_err(|limit| why(
+        OpenError::OutOfRange(limit),
+    ))?;
+    let mut memory = vec![in rt.alloc(); 0; limits.memory() as usize]?;
+    open(memory.as_mut_slice(), members, periods, steps, blocks, me).map_err(why)?;
+    play(rt, &mut memory)
 }
 
 // A refusal to start is one line on standard error, and status 1.

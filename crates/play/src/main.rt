@@ -1,29 +1,24 @@
 // Plays a network from a file: `play FILE`.
 #![tactic(auto)]
 
-use anyhow::anyhow;
+use anyhow::{Context, anyhow};
 use limits::Limits;
+use script::first_line;
 use std::process::ExitCode;
-use std::{env, fs, io};
-use text::{cut, read_network};
+use std::{env, fmt, fs, io};
+use text::read_network;
 
-// The first line of a text, without its line feed.
-fn first_line(text: &[u8]) -> &[u8] {
-    match cut(text, b'\n') {
-        Some((line, _)) => line,
-        None => text,
-    }
-}
+const USAGE: &str = "usage: play FILE";
 
 fn show(rt: &HostRuntime, limits: Limits) -> anyhow::Result<()> {
-    let members = limits.members;
-    let periods = limits.periods;
-    let steps = limits.steps;
-    let blocks = limits.blocks;
-    let quorum = limits.quorum();
-    let memory = limits.memory_bytes();
     println!(rt;
-        "network {members} {periods} {steps} {blocks}: quorum {quorum}, memory {memory} bytes a member"
+        "network {} {} {} {}: quorum {}, memory {} bytes a member",
+        limits.members,
+        limits.periods,
+        limits.steps,
+        limits.blocks,
+        limits.quorum(),
+        limits.memory_bytes()
     )?;
     Ok(())
 }
@@ -35,6 +30,15 @@ enum PlayError {
     Other(anyhow::Error),
 }
 
+impl fmt::Display for PlayError {
+    fn fmt<W: fmt::Write>(&self, f: &mut fmt::Formatter<W>) -> fmt::Result {
+        match self {
+            PlayError::Unread(path, error) => write!(f, "cannot read {path}: {error}"),
+            PlayError::Other(error) => write!(f, "{error}"),
+        }
+    }
+}
+
 impl From<anyhow::Error> for PlayError {
     fn from(error: anyhow::Error) -> PlayError {
         PlayError::Other(error)
@@ -42,32 +46,23 @@ impl From<anyhow::Error> for PlayError {
 }
 
 fn read(rt: &HostRuntime, path: String) -> Result<Vec<u8>, PlayError> {
-    match fs::read(rt, path.as_str()) {
-        Ok(text) => Ok(text),
-        Err(error) => Err(PlayError::Unread(path, error)),
-    }
+    fs::read(rt, path.as_str()).map_err(|error| PlayError::Unread(path, error))
 }
 
 fn play(rt: &HostRuntime, text: &[u8]) -> anyhow::Result<()> {
-    if text.len() == 0 {
-        return Err(anyhow!(
-            "the file is empty: its first line is 'network MEMBERS PERIODS STEPS BLOCKS'"
-        ));
-    }
-    match read_network(first_line(text)) {
-        Ok(limits) => show(rt, limits),
-        Err(error) => Err(anyhow!("line 1: {error}")),
-    }
+    let (line, _) = first_line(text).context(
+        "the file is empty: its first line is 'network MEMBERS PERIODS STEPS BLOCKS'",
+    )?;
+    let limits = read_network(line).map_err(|error| anyhow!("line 1: {error}"))?;
+    show(rt, limits)
 }
 
 fn argument(rt: &HostRuntime) -> anyhow::Result<String> {
     let mut args = env::args(rt)?;
     let _ = args.next();
-    let Some(path) = args.next() else {
-        return Err(anyhow!("usage: play FILE"));
-    };
-    if let Some(_) = args.next() {
-        return Err(anyhow!("usage: play FILE"));
+    let path = args.next().context(USAGE)?;
+    if args.next().is_some() {
+        return Err(anyhow!("{USAGE}"));
     }
     Ok(path)
 }
@@ -79,19 +74,12 @@ fn run(rt: &HostRuntime) -> Result<(), PlayError> {
     Ok(())
 }
 
-fn refuse(rt: &HostRuntime, error: PlayError) -> io::Result<()> {
-    match error {
-        PlayError::Unread(path, error) => eprintln!(rt; "play: cannot read {path}: {error}"),
-        PlayError::Other(error) => eprintln!(rt; "play: {error}"),
-    }
-}
-
 // A refusal is one line on standard error, and status 1.
 fn main(rt: HostRuntime) -> ExitCode {
     match run(&rt) {
         Ok(()) => ExitCode::SUCCESS,
         Err(error) => {
-            let _ = refuse(&rt, error);
+            let _ = eprintln!(rt; "play: {error}");
             ExitCode::FAILURE
         }
     }
