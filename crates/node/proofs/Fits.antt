@@ -1,5 +1,5 @@
 -- An event has no more than 65 bytes.
-use Rattle.std.proofs.Common.{◌≡◌, ℕ, ◌≤◌, true, List, length, Ok, Err, Result, refl, arith}
+use Rattle.std.proofs.Common.{◌≡◌, ℕ, ◌≤◌, List, length, Ok, Err, Result, refl, arith}
 use Rattle.std.specs.Result.{IsOk}
 use Rattle.protocol.specs.Member.{Event, got_vote, got_proposal, got_block, timeout, unreadable}
 use Rattle.wire.specs.Bytes.{event_bytes, Written}

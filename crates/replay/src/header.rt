@@ -1,4 +1,6 @@
 // The first lines of a file: `network MEMBERS PERIODS STEPS BLOCKS`, and then a line `faulty I` for each faulty member.
+ghost use Rattle.std.specs.Prelude.{◌≡◌};
+
 use limits::Limits;
 use network::Members;
 use script::{FaultyError, first_line, read_faulty};
@@ -14,7 +16,9 @@ pub(crate) struct Script<'a> {
 
 impl<'a> Script<'a> {
     // Goes on after a line, with what follows it.
-    fn pass(&mut self, rest: &'a [u8]) {
+    pub(crate) fn pass(&mut self, rest: &'a [u8])
+        ensures { self.new.rest.now ≡ rest.now }
+    {
         self.rest = rest;
         self.at = self.at.saturating_add(1);
     }
@@ -46,47 +50,34 @@ impl fmt::Display for HeaderError {
                 "line 1: the file is empty, and not 'network MEMBERS PERIODS STEPS BLOCKS'"
             ),
             HeaderError::NoLimits(error) => write!(f, "line 1: {error}"),
-            HeaderError::NotNumber(at) => {
-                let line = at.saturating_add(1);
-                write!(
-                    f,
-                    "line {line}: it is not 'faulty I', a number in decimal without zeros before it"
-                )
-            }
-            HeaderError::NotMember(at) => {
-                let line = at.saturating_add(1);
-                write!(f, "line {line}: there is no member of this number")
-            }
+            HeaderError::NotNumber(at) => write!(
+                f,
+                "line {}: it is not 'faulty I', a number in decimal without zeros before it",
+                at.saturating_add(1)
+            ),
+            HeaderError::NotMember(at) => write!(
+                f,
+                "line {}: there is no member of this number",
+                at.saturating_add(1)
+            ),
         }
     }
 }
 
 fn read_limits(script: &mut Script) -> Result<Limits, HeaderError> {
-    let Some((line, rest)) = first_line(script.rest) else {
-        return Err(HeaderError::Empty);
-    };
+    let (line, rest) = first_line(script.rest).ok_or(HeaderError::Empty)?;
     script.pass(rest);
-    match read_network(line) {
-        Ok(limits) => Ok(limits),
-        Err(error) => Err(HeaderError::NoLimits(error)),
-    }
+    read_network(line).map_err(HeaderError::NoLimits)
 }
 
 // The header, up to the first line after the limits whose first word is not `faulty`.
 pub(crate) fn read_header(script: &mut Script) -> Result<Header, HeaderError> {
     let limits = read_limits(script)?;
     let mut faulty = Members::none();
-    for _ in 0..u64::MAX {
-        let Some((line, rest)) = first_line(script.rest) else {
-            break;
-        };
+    while let Some((line, rest)) = first_line(script.rest) {
         match read_faulty(line) {
-            Ok(member) => {
-                if member >= limits.members {
-                    return Err(HeaderError::NotMember(script.at));
-                }
-                faulty = faulty.with(member);
-            }
+            Ok(member) if member < limits.members => faulty = faulty.with(member),
+            Ok(_) => return Err(HeaderError::NotMember(script.at)),
             Err(FaultyError::NotFaulty) => break,
             Err(FaultyError::NotNumber) => return Err(HeaderError::NotNumber(script.at)),
         }

@@ -6,10 +6,12 @@ mod header;
 mod plays;
 
 use crate::plays::{LENT, play};
-use anyhow::anyhow;
-use std::env;
+use anyhow::Context;
 use std::process::ExitCode;
+use std::{env, fmt};
 use text::number;
+
+const USAGE: &str = "usage: replay [--memory BYTES] FILE...";
 
 // What is asked for: the files to play, and what is lent for each.
 #[derive(Drop)]
@@ -19,17 +21,10 @@ struct Asked {
     first: String,
 }
 
-fn next(args: &mut env::Args) -> anyhow::Result<String> {
-    match args.next() {
-        Some(word) => Ok(word),
-        None => Err(anyhow!("usage: replay [--memory BYTES] FILE...")),
-    }
-}
-
 fn arguments(rt: &HostRuntime) -> anyhow::Result<Asked> {
     let mut args = env::args(rt)?;
     let _ = args.next();
-    let first = next(&mut args)?;
+    let first = args.next().context(USAGE)?;
     if first.as_str() != "--memory" {
         return Ok(Asked {
             lent: LENT,
@@ -37,11 +32,11 @@ fn arguments(rt: &HostRuntime) -> anyhow::Result<Asked> {
             first,
         });
     }
-    let bytes = next(&mut args)?;
-    let Some(lent) = number(bytes.as_bytes()) else {
-        return Err(anyhow!("BYTES is no number below 2^64 in decimal without zeros before it"));
-    };
-    let first = next(&mut args)?;
+    let bytes = args.next().context(USAGE)?;
+    let lent = number(bytes.as_bytes()).context(
+        "BYTES is no number below 2^64 in decimal without zeros before it",
+    )?;
+    let first = args.next().context(USAGE)?;
     Ok(Asked {
         lent,
         files: args,
@@ -49,37 +44,44 @@ fn arguments(rt: &HostRuntime) -> anyhow::Result<Asked> {
     })
 }
 
-// A refusal names its file, so that it is plain which of several it was.
-fn play_file(rt: &HostRuntime, path: &str, lent: u64) -> anyhow::Result<()> {
-    match play(rt, path, lent) {
-        Ok(()) => Ok(()),
-        Err(error) => {
-            eprintln!(rt; "replay: {path}: {error}")?;
-            Err(error)
+// Why it ends early. What is wrong with a file names it, so that it is plain which of several it was; a path has any
+// length, and an anyhow::Error keeps a short text.
+#[derive(Drop)]
+enum ReplayError {
+    Arguments(anyhow::Error),
+    File(String, anyhow::Error),
+}
+
+impl fmt::Display for ReplayError {
+    fn fmt<W: fmt::Write>(&self, f: &mut fmt::Formatter<W>) -> fmt::Result {
+        match self {
+            ReplayError::Arguments(error) => write!(f, "{error}"),
+            ReplayError::File(path, error) => write!(f, "{path}: {error}"),
         }
     }
 }
 
+fn play_file(rt: &HostRuntime, path: String, lent: u64) -> Result<(), ReplayError> {
+    play(rt, path.as_str(), lent).map_err(|error| ReplayError::File(path, error))
+}
+
 // Plays one file after the other, up to the first that is refused.
-fn run(rt: &HostRuntime) -> anyhow::Result<()> {
-    let Asked { lent, files, first } = match arguments(rt) {
-        Ok(asked) => asked,
-        Err(error) => {
-            eprintln!(rt; "replay: {error}")?;
-            return Err(error);
-        }
-    };
-    play_file(rt, first.as_str(), lent)?;
+fn run(rt: &HostRuntime) -> Result<(), ReplayError> {
+    let Asked { lent, files, first } = arguments(rt).map_err(ReplayError::Arguments)?;
+    play_file(rt, first, lent)?;
     for path in files {
-        play_file(rt, path.as_str(), lent)?;
+        play_file(rt, path, lent)?;
     }
     Ok(())
 }
 
-// A refusal is one line on standard error, which stands there by now, and status 1.
+// A refusal is one line on standard error, and status 1.
 fn main(rt: HostRuntime) -> ExitCode {
     match run(&rt) {
         Ok(()) => ExitCode::SUCCESS,
-        Err(_) => ExitCode::FAILURE,
+        Err(error) => {
+            let _ = eprintln!(rt; "replay: {error}");
+            ExitCode::FAILURE
+        }
     }
 }

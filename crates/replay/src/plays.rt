@@ -3,9 +3,9 @@ use crate::files::read_file;
 use crate::header::{Header, Script, read_header};
 use anyhow::anyhow;
 use lines::AnswerLine;
-use network::{BeginError, DeliverError, Network};
-use script::{MemberLine, Outcome, PlayedLine, first_line, read_delivery};
-use wire::{Answer, Event, Refusal};
+use network::{BeginError, Network};
+use script::{MemberLine, PlayedLine, first_line, read_delivery};
+use wire::{Answer, Refusal};
 
 // How many bytes are lent to all honest members together unless `--memory` says otherwise. A file may always have as
 // many.
@@ -17,49 +17,29 @@ fn begin(rt: &HostRuntime, header: Header, lent: u64) -> anyhow::Result<Network>
     // no network of these limits asks for more, so no more is taken
     let most = limits.members.saturating_mul(limits.memory());
     let memory = vec![in rt.alloc(); 0u64; most.min(lent / 8) as usize]?;
-    match Network::new(memory, limits, faulty) {
-        Ok(network) => Ok(network),
-        Err(BeginError::TooManyFaulty) => Err(anyhow!("a third or more of the members are faulty")),
-        Err(BeginError::TooShort(numbers)) => {
-            let bytes = numbers.saturating_mul(8);
-            Err(anyhow!(
-                "the honest members need {bytes} bytes of memory, and {lent} are lent: --memory lends more"
-            ))
-        }
-    }
-}
-
-fn deliver(network: &mut Network, to: u64, event: Event) -> Outcome {
-    match network.deliver(to, event) {
-        Ok(answer) => Outcome::Answered(answer),
-        Err(DeliverError::NotSaid) => Outcome::NotSaid,
-        Err(DeliverError::Faulty) => Outcome::Faulty,
-        Err(DeliverError::NotMember) => Outcome::NotMember,
-    }
+    Network::new(memory, limits, faulty).map_err(|error| match error {
+        BeginError::TooManyFaulty => anyhow!("{error}"),
+        BeginError::TooShort(_) => anyhow!("{error}, and {lent} are lent: --memory lends more"),
+    })
 }
 
 // A line that delivers nothing is refused by 1, and its place is the line's number.
 fn play_line(rt: &HostRuntime, network: &mut Network, line: &[u8], at: u64) -> anyhow::Result<()> {
+    // Kept so: the pair gets a name before it is taken apart, as the borrow checker doesn't reach into an event in `Some`.
     let Some(delivery) = read_delivery(line) else {
-        let refused = AnswerLine(Answer::Refused(Refusal::NoEvent, at));
-        println!(rt; "{refused}")?;
+        println!(rt; "{}", AnswerLine(Answer::Refused(Refusal::NoEvent, at)))?;
         return Ok(());
     };
     let (to, event) = delivery;
-    let outcome = deliver(network, to, event);
-    let played = PlayedLine { to, event, outcome };
-    println!(rt; "{played}")?;
+    let outcome = network.deliver(to, event);
+    println!(rt; "{}", PlayedLine { to, event, outcome })?;
     Ok(())
 }
 
-fn play_lines(rt: &HostRuntime, network: &mut Network, script: Script) -> anyhow::Result<()> {
-    let mut rest = script.rest;
-    for at in script.at..u64::MAX {
-        let Some((line, after)) = first_line(rest) else {
-            break;
-        };
-        play_line(rt, network, line, at)?;
-        rest = after;
+fn play_lines(rt: &HostRuntime, network: &mut Network, mut script: Script) -> anyhow::Result<()> {
+    while let Some((line, rest)) = first_line(script.rest) {
+        play_line(rt, network, line, script.at)?;
+        script.pass(rest);
     }
     Ok(())
 }
@@ -86,10 +66,7 @@ pub(crate) fn play(rt: &HostRuntime, path: &str, lent: u64) -> anyhow::Result<()
         rest: text.as_slice(),
         at: 0,
     };
-    let header = match read_header(&mut script) {
-        Ok(header) => header,
-        Err(error) => return Err(anyhow!("{error}")),
-    };
+    let header = read_header(&mut script).map_err(|error| anyhow!("{error}"))?;
     let mut network = begin(rt, header, lent)?;
     play_lines(rt, &mut network, script)?;
     show_members(rt, &network, header.limits.members)
