@@ -43,6 +43,7 @@ fn proposals_range(limits: Limits) -> Range<usize>
 }
 
 // and the blocks behind the proposals.
+// Kept so: one function for both would take a place and a size, and ask that their sum fits; these ask nothing.
 fn blocks_range(limits: Limits) -> Range<usize>
     ensures start { result.start ≡ proposals_end (limits_of all limits) }
     ensures end { result.end ≡ blocks_end (limits_of all limits) }
