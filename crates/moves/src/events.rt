@@ -1,8 +1,6 @@
 // What a member does with each event that it takes: the moves in their order. The header is written afterwards.
-// Kept so: a member is taken by value, beside lent memory, and handed back, by a rule of the project; so each function
-// asks that the memory is long enough for it, and promises `Same` of the member that it hands back.
-// Kept so: a `ValidVote` or `ValidProposal` brings limits of its own, which each call would have to show to be the
-// member's; that it is in range says no more, and says it once.
+// Kept so: a member is taken by value, beside lent memory, and handed back, by a rule of the project.
+// Kept so: a type in range would bring limits of its own, and each call would have to show that they are the member's.
 ghost use Rattle.std.specs.Prelude.{◌≡◌, ℕ, ◌≤◌, true, false, List, ◌++◌, length, IfSome, MatchOption, ◌≢◌};
 ghost use Rattle.protocol.specs.Vote.{slot_taken};
 ghost use Rattle.protocol.specs.Member.{vote_in_range, got_vote, got_proposal, got_block, timeout, with_blocks, does};

@@ -1,8 +1,6 @@
 // What a member does: each move takes it by value, with its memory, and hands it back.
-// Kept so: a member is taken by value, beside lent memory, and handed back, by a rule of the project; so each function
-// asks that the memory is long enough for it, and promises `Same` of the member that it hands back.
-// Kept so: a `ValidVote` in place of a vote brings limits of its own, which each call would have to show to be the
-// member's; that the vote is in range says no more, and says it once.
+// Kept so: a member is taken by value, beside lent memory, and handed back, by a rule of the project.
+// Kept so: a `ValidVote` would bring limits of its own, and each call would have to show that they are the member's.
 ghost use Rattle.std.specs.Prelude.{◌≡◌, ℕ, ◌+◌, ◌≤◌, true, List, length, is_none};
 ghost use Rattle.protocol.specs.Member.{vote_in_range, own, now_certain};
 ghost use Rattle.protocol.specs.Member.{in_period, silent, onward, certainly};

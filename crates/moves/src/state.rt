@@ -4,8 +4,7 @@ ghost use Rattle.std.specs.Prelude.{◌+◌, ◌-◌, ◌<◌, ◌≤◌};
 use limits::Limits;
 use values::Value;
 
-// Kept so: memory may hold a starting value and `free` in any combination, and looking at it promises each of them, so
-// they stay two fields; and `certain` is of no value.
+// Kept so: memory may hold `start` and `free` in any combination, and `look` promises each; `certain` has no value.
 #[derive(Clone, Copy)]
 pub struct Member {
     pub limits: Limits,

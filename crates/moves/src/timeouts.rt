@@ -1,6 +1,5 @@
 // When time is up: the soft vote of a period, and votes to go on.
-// Kept so: a member is taken by value, beside lent memory, and handed back, by a rule of the project; so each function
-// asks that the memory is long enough for it, and promises `Same` of the member that it hands back.
+// Kept so: a member is taken by value, beside lent memory, and handed back, by a rule of the project.
 ghost use Rattle.std.specs.Prelude.{◌≡◌, ℕ, suc, ◌+◌, ◌≤◌, true, false, List, length};
 ghost use Rattle.protocol.specs.Vote.{soft, slot_taken};
 ghost use Rattle.protocol.specs.Member.{vote_in_range, chosen, own, with_vote, at_step, soft_value, next_vote};
