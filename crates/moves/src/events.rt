@@ -1,6 +1,6 @@
 // What a member does with each event that it takes: the moves in their order. The header is written afterwards.
 // Kept so: a member is taken by value, beside lent memory, and handed back, by a rule of the project.
-// Kept so: a type in range would bring limits of its own, and each call would have to show that they are the member's.
+// Kept so: a vote or proposal in range by type brings limits of its own, to be shown to be the member's at each call.
 ghost use Rattle.std.specs.Prelude.{◌≡◌, ℕ, ◌≤◌, true, false, List, ◌++◌, length, IfSome, MatchOption, ◌≢◌};
 ghost use Rattle.protocol.specs.Vote.{slot_taken};
 ghost use Rattle.protocol.specs.Member.{vote_in_range, got_vote, got_proposal, got_block, timeout, with_blocks, does};
