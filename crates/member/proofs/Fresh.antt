@@ -6,7 +6,7 @@ use Rattle.std.proofs.lemmas.List.{get_or_past}
 use Rattle.std.proofs.lemmas.Bool.{and_from, lt-ltb, cases_lt}
 use Rattle.protocol.specs.Vote.{Limits, word_bound}
 use Rattle.protocol.specs.Member.{new_member}
-use Rattle.protocol.specs.Programs.{memory_size, all_words, member_after}
+use Rattle.protocol.specs.Programs.{all_words, member_after}
 use Rattle.protocol.specs.Promises.{all}
 use Rattle.limits.specs.Limits.{limits_of}
 use Rattle.limits.specs.declared.bounds.Limits as sizes
@@ -17,15 +17,10 @@ use Rattle.tally.specs.Votes.{Holds}
 use Rattle.cells.specs.Proposals.{Proposes}
 use Rattle.cells.specs.Blocks.{blocks_in}
 use Rattle.tally.proofs.Heard.{holds_none}
-use Rattle.tally.proofs.Index.{parts_size}
 use Rattle.cells.proofs.Best.{proposes_none}
 use Rattle.cells.proofs.Here.{here_none}
 use Rattle.moves.specs.Parts.{part, of_votes, of_proposals, of_blocks, of_rest, votes_end, proposals_end, blocks_end}
 use Rattle.moves.specs.Parts.{Blank}
-
--- the parts are as long together as the limits ask for
-pub size_is : (l : Limits) → blocks_end l ≡ memory_size l
-size_is l = sym (parts_size l)
 
 -- each number of a list fits eight bytes
 pub words_by_places : (xs : List ℕ) → ((i : ℕ) → get_or xs i 0 < word_bound) → all_words xs ≡ true
