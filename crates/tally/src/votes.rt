@@ -25,12 +25,9 @@ impl ValidVote {
         ensures step { result.step ≡ self.vote.step }
     {
         let ValidVote { limits, vote } = self;
-        let Ok(kind) = Kind::try_from(vote.kind) else {
-            unreachable!();
-        };
         Slot {
             limits,
-            kind,
+            kind: Kind::try_from(vote.kind).unwrap(),
             period: vote.period,
             step: vote.step,
         }

@@ -1,4 +1,4 @@
-use Rattle.std.proofs.Common.{sym, ap, ◌∙◌}
+use Rattle.std.proofs.Common.{◌≡◌, rules, refl, Ok, Err, Result, IsOk, sym, ap, ◌∙◌}
 use Rattle.protocol.proofs.Ranges.{ranged}
 use Rattle.tally.specs.Layout.{slot_in_range}
 use Rattle.tally.specs.Valid.{valid_vote, vote_limits}
@@ -6,16 +6,21 @@ use Rattle.tally.proofs.Index.{slot_good}
 use Rattle.tally.proofs.KindOf.{is_kind, no_kind}
 use Rattle.tally.proofs.valid.ValidVote.slot.Goals as goal
 
-pub unreachable-requires : goal.unreachable-requires
-unreachable-requires c =
+is_ok : {A B : Type 0} (r : Result A B) → ((f : B) → r ≡ Err f → ⊥) → IsOk r
+is_ok (Ok x) other = search rules
+is_ok (Err f) other = absurd (other f refl)
+
+pub unwrap-requires : goal.unwrap-requires
+unwrap-requires c =
     let v = c.args.self in
-    no_kind _ _ v.vote.kind (ranged (vote_limits v) (valid_vote v) v.in_range).kinds
-    (sym c.try_from.ensures ∙ c.in_default.is)
+    is_ok c.try_from.result
+    (λ f e. no_kind _ f v.vote.kind (ranged (vote_limits v) (valid_vote v) v.in_range).kinds
+    (sym c.try_from.ensures ∙ e))
 
 pub invariant_of-result : goal.invariant_of-result
 invariant_of-result c =
     let v = c.args.self in
-    let kind = is_kind _ v.vote.kind c.in-Ok.kind (sym c.try_from.ensures ∙ c.in-Ok.is) in
+    let kind = is_kind _ v.vote.kind c.unwrap.result (sym c.try_from.ensures ∙ c.unwrap.ensures) in
     record {
       in_range = ap (λ k. slot_in_range (vote_limits v) k v.vote.period v.vote.step) (sym kind)
           ∙ slot_good (vote_limits v) (valid_vote v) v.in_range;
