@@ -4,8 +4,8 @@ use Rattle.std.specs.Borrow.{Bor}
 use Rattle.text.specs.Words.{words}
 use Rattle.text.specs.Decimals.{spelled}
 
--- The first word spells this number, and these are the bytes of the others; or it spells none below the bound, or is the
--- only one.
+-- The first word spells this number, and these are the bytes of the others; or it spells none below the bound, or is
+-- the only one.
 abbrev pub Field : {A : Type 0} → ℕ → (A → ℕ) → List ℕ → Option (A × Bor (List ℕ)) → Type 0
 Field bound of text (Some x) = words text ≡ spelled (of x.0) ∷ words x.1.now
 Field bound of text None = (n : ℕ) (w : List ℕ) (ws : List (List ℕ)) → n < bound → words text ≢ spelled n ∷ (w ∷ ws)

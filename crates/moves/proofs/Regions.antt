@@ -5,7 +5,8 @@ use Rattle.std.specs.List.{between}
 use Rattle.std.proofs.lemmas.Slice.{between_is, take-put_mid_below, drop-put_mid, between-put_mid}
 use Rattle.std.proofs.lemmas.Bool.{true≢false}
 use Rattle.protocol.specs.Vote.{Limits}
-use Rattle.moves.specs.Parts.{Part, part, of_header, of_votes, of_proposals, of_blocks, of_rest, votes_end, proposals_end}
+use Rattle.moves.specs.Parts.{Part, part, of_header, of_votes, of_proposals, of_blocks, of_rest, votes_end}
+use Rattle.moves.specs.Parts.{proposals_end}
 use Rattle.moves.specs.Parts.{blocks_end, OnlyIn}
 
 -- the numbers from s up to e written anew

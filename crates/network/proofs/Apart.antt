@@ -1,6 +1,7 @@
 -- Honest members have seats of their own, so their memory lies apart.
 use Rattle.std.proofs.Common.{◌≡◌, ℕ, zero, suc, ◌+◌, ◌*◌, ◌<◌, ◌≤◌, Bool, true, false, cond, not, List, sym, refl, ap}
-use Rattle.std.proofs.Common.{[], ◌∷◌, length, add-one, map, length-append, ◌∙◌, inl, inr, le_trans, mul-le-mul_right, suc-mul, arith}
+use Rattle.std.proofs.Common.{[], ◌∷◌, length, add-one, map, length-append, ◌∙◌, inl, inr, le_trans, mul-le-mul_right}
+use Rattle.std.proofs.Common.{suc-mul, arith}
 use Rattle.std.specs.List.{filter, range_with_len}
 use Rattle.std.proofs.lemmas.List.{map-id}
 use Rattle.std.proofs.lemmas.List.FromFn.{filter_of_map_range_with_len_more}

@@ -22,7 +22,8 @@ impl Network {
 
     // What a member agreed on; none if it has not yet, or is no honest member.
     fn agreed_by(&self, member: u64) -> Option<Value>
-        ensures is { MatchOption result (NotAgreed (limits_in self.now) (faulty_in self.now) (memory_in self.now) member)
+        ensures is { MatchOption result
+            (NotAgreed (limits_in self.now) (faulty_in self.now) (memory_in self.now) member)
             (λ x. AgreedBy (limits_in self.now) (faulty_in self.now) (memory_in self.now) member (value_of x)) }
     {
         self.look(member)?.agreed

@@ -13,8 +13,7 @@ use super::state::Network;
 use limits::Limits;
 
 // Opens each honest member, one after the other.
-// Kept so: what a loop over `chunks_exact_mut` wrote isn't known after it, only how long the memory is; so the parts are
-// cut by where they begin.
+// Kept so: of what a loop over `chunks_exact_mut` wrote, only the length is known after it.
 fn open_all(memory: &mut Vec<u64>, limits: Limits, faulty: Members)
     requires room { room_for (limits_of all limits) (has faulty.bits) ≤ vec_len memory.old }
     ensures is { AllNew (limits_of all limits) (has faulty.bits) memory.new.items }

@@ -1,5 +1,6 @@
 -- The text of a play that is printed, and what is promised of it. Assumes nothing: definitions and statements.
-use Rattle.std.specs.Prelude.{◌≡◌, ℕ, ◌^◌, ◌<◌, true, List, ◌∷◌, ◌++◌, Some, Ok, Err, codes, Option, MatchOption, Result}
+use Rattle.std.specs.Prelude.{◌≡◌, ℕ, ◌^◌, ◌<◌, true, List, ◌∷◌, ◌++◌, Some, Ok, Err, codes, Option, MatchOption}
+use Rattle.std.specs.Prelude.{Result}
 use Rattle.text.specs.Words.{pieces}
 use Rattle.protocol.specs.Member.{Event, is_event}
 use Rattle.protocol.specs.Programs.{readable}

@@ -3,7 +3,7 @@ use Rattle.std.specs.Prelude.{◌≡◌, ℕ, zero, suc, ◌+◌, ◌*◌, ◌<�
 use Rattle.std.specs.Prelude.{◌==◌, slice_index}
 use Rattle.protocol.specs.Vote.{cert, Vote, Limits, has_quorum}
 use Rattle.protocol.specs.Member.{vote_in_range}
-use Rattle.protocol.specs.Network.{all_different, how_many}
+use Rattle.protocol.specs.Network.{all_different}
 use Rattle.cells.specs.Cells.{value_at}
 use Rattle.tally.specs.Layout.{row_of, slot_in_range}
 
@@ -23,10 +23,6 @@ entry_of l v = row_of l v.kind v.period v.step + v.from
 unfoldable pub is_only : ℕ → List ℕ → Bool
 is_only x [] = false
 is_only x (y ∷ ys) = x == y
-
--- how many of the n entries from `first` on are for this value
-abbrev pub row_count : List ℕ → ℕ → ℕ → ℕ → ℕ
-row_count part first n x = how_many n (λ i. is_only x (heard_at part (first + i)))
 
 -- a vote of this member in this slot
 abbrev pub is_of : ℕ → ℕ → ℕ → ℕ → Vote → Bool

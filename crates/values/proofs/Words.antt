@@ -54,7 +54,9 @@ word_long (suc k) zero bs long low = length-take 8 bs ∙ omega arith
 word_long (suc k) (suc i) bs long low = word_long k i (drop 8 bs) (length-drop 8 bs ∙ omega arith) (omega arith)
 
 -- a list by its places
-pub mapped : {A B : Type 0} (f : A → B) (xs : List A) (ys : List B) (n : ℕ) (d : A) (e : B) → length xs ≡ n → length ys ≡ n →
+pub mapped :
+    {A B : Type 0} (f : A → B) (xs : List A) (ys : List B) (n : ℕ) (d : A) (e : B) → length xs ≡ n → length ys ≡ n →
     ((i : ℕ) → i < n → get_or ys i e ≡ f (get_or xs i d)) → ys ≡ map f xs
 mapped f xs ys n d e long long' at =
-    ext_get_or e ys (map f xs) (long' ∙ sym (length-map xs f ∙ long)) (λ i low. at i (omega (arith, low, long')) ∙ sym (get_or-map f xs i d e (omega (arith, low, long, long'))))
+    ext_get_or e ys (map f xs) (long' ∙ sym (length-map xs f ∙ long))
+    (λ i low. at i (omega (arith, low, long')) ∙ sym (get_or-map f xs i d e (omega (arith, low, long, long'))))

@@ -66,7 +66,7 @@ pub enum Said {
     Two(Vote, Vote),
 }
 
-// Kept so: a refusal is an answer with bytes of its own, not a failure, and as a Result callers would read `Ok(Err(..))`.
+// Kept so: a refusal is an answer with bytes of its own, not a failure; as a Result callers would read `Ok(Err(..))`.
 #[derive(Clone, Copy, Debug, PartialEq, Eq)]
 pub enum Answer {
     // why, and at which place of the event's bytes

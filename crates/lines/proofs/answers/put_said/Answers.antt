@@ -28,4 +28,5 @@ returns-in_ok-put_followed-in-Two g c =
     let sep = c.args.sep.now in
     let is = two_followed sep (vote_text (vote_of c.in-Two.first)) (vote_text (vote_of c.in-Two.second))
     ∙ ap (said_text sep) (sym c.in-Two.is) in
-    record { is = both_written c.put_followed-in-Two-2.result is c.in_ok-put_followed-in-Two.ensures.is c.put_followed-in-Two-2.ensures.is }
+    let first = c.in_ok-put_followed-in-Two.ensures.is in
+    record { is = both_written c.put_followed-in-Two-2.result is first c.put_followed-in-Two-2.ensures.is }

@@ -7,7 +7,10 @@ use Rattle.moves.specs.declared.state.Member.{Member}
 use Rattle.moves.proofs.Agreeing.{has_agreed, by_agreed, by_another_kind, by_too_few, by_no_block}
 use Rattle.moves.proofs.Agreeing.{by_agrees, cert-quorum}
 use Rattle.moves.proofs.state.Member.agree_by.Goals as goal
-use Rattle.moves.proofs.state.Member.agree_by.Goals.{else-is_none-via-else-is_none, else-is_none-via-then-is_none+else-vote-from, else-is_none-via-then-is_none+then-vote-from+else-is_quorum, else-is_none-via-then-is_none+then-vote-from+then-is_quorum+else-is_here}
+use Rattle.moves.proofs.state.Member.agree_by.Goals.{else-is_none-via-else-is_none}
+use Rattle.moves.proofs.state.Member.agree_by.Goals.{else-is_none-via-then-is_none+else-vote-from}
+use Rattle.moves.proofs.state.Member.agree_by.Goals.{else-is_none-via-then-is_none+then-vote-from+else-is_quorum}
+use Rattle.moves.proofs.state.Member.agree_by.Goals.{else-is_none-via-then-is_none+then-vote-from+then-is_quorum+else-is_here}
 
 pub returns-then-is_here-clause-is : goal.returns-then-is_here-clause-is
 returns-then-is_here-clause-is c = λ m h.

@@ -18,6 +18,7 @@ returns c =
     record {
       is = agreed_on c.args.self.now.limits faulty mem stands c.find_map.result (first_mapped _ _
           (λ i x. AgreedBy l faulty mem i (value_of x)) (NotAgreed l faulty mem)
-          (λ a r q k. search (rules, tests)) (λ i x h. search (rules, tests)) (λ i h. search (rules, tests)) _ c.find_map.result c.find_map.ensures.runs);
+          (λ a r q k. search (rules, tests)) (λ i x h. search (rules, tests)) (λ i h. search (rules, tests)) _
+          c.find_map.result c.find_map.ensures.runs);
       stands = stands;
     }

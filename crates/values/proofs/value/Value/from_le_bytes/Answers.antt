@@ -17,7 +17,9 @@ returns c =
     let words : c.as_chunks.result.0.now ≡ chunks = search rules in
     let at : (i : ℕ) → i < 4 → get_or limbs i 0 ≡ by_places (get_or c.as_chunks.result.0.now i []) =
     λ i p. let h = (items.at i 0 p).2.met in search rules in
-    let number = λ (i : ℕ) (p : i < 4). word_number _ _ _ (at i p) (ap (λ ws. get_or ws i []) words) (word_long 4 i bs long p) in
-    let each : limbs ≡ map le_number chunks = mapped le_number chunks limbs 4 [] 0 (length_words 4 bs) items.long number in
+    let number = λ (i : ℕ) (p : i < 4).
+    word_number _ _ _ (at i p) (ap (λ ws. get_or ws i []) words) (word_long 4 i bs long p) in
+    let each : limbs ≡ map le_number chunks =
+    mapped le_number chunks limbs 4 [] 0 (length_words 4 bs) items.long number in
     let is : value_of c.from.result ≡ le_number bs = ap number_of (c.from.ensures ∙ each) ∙ words_number 4 bs long in
     record { is = is; back = bytes_back bs 32 _ long is low }

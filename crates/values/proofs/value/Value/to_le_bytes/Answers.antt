@@ -16,7 +16,8 @@ returns c =
     let words : c.map-words.result ≡ map (le_bytes 8) c.limbs.result =
     mapped (le_bytes 8) _ _ 4 0 [] four items.long (λ i low. (items.at i 0 [] low).2.met ∙ sym (word_bytes _)) in
     let flat : c.unwrap.result ≡ flat_map (λ word. word) c.map-words.result = search rules in
-    let is = flat ∙ ap (flat_map (λ word. word)) words ∙ flat_map-map (λ word. word) (le_bytes 8) _ ∙ ap (flat_map (le_bytes 8)) limbs ∙ sym (value_bytes v.limbs v.four v.fit) in
+    let is = flat ∙ ap (flat_map (λ word. word)) words ∙ flat_map-map (λ word. word) (le_bytes 8) _
+    ∙ ap (flat_map (le_bytes 8)) limbs ∙ sym (value_bytes v.limbs v.four v.fit) in
     record {
       is = is;
       back = ap le_number is ∙ number_digits 256 32 _ (omega arith) (value_below v.limbs v.four v.fit);
