@@ -35,14 +35,9 @@ pub(crate) fn answers(
     answer: Answer,
 ) -> Result<(), Fail> {
     let mut bytes = [0; 65];
-    let Ok(n) = write_event(&mut bytes, event) else {
-        return Err(Fail::new("no room"));
-    };
+    let n = write_event(&mut bytes, event).map_err(|_| Fail::new("no room"))?;
     assert!(rt; n <= 65);
-    let Ok(given) = call(memory, &bytes[0..n]) else {
-        return Err(Fail::new("not open"));
-    };
-    assert!(rt; given == answer);
+    assert_eq!(rt; call(memory, &bytes[0..n]), Ok(answer));
     Ok(())
 }
 
@@ -87,19 +82,11 @@ pub(crate) fn stands(
     step: u64,
     start: Option<u64>,
 ) -> Result<(), Fail> {
-    let Some(member) = look(memory) else {
-        return Err(Fail::new("not open"));
-    };
+    let member = look(memory).ok_or_else(|| Fail::new("not open"))?;
     assert_eq!(rt; member.period, period);
     assert_eq!(rt; member.step, step);
     assert_eq!(rt; member.free, start.is_none());
-    let Some(value) = member.start else {
-        assert!(rt; start.is_none(), "no starting value");
-        return Ok(());
-    };
-    let Some(number) = start else {
-        return Err(Fail::new("a starting value"));
-    };
-    assert!(rt; value == Value::from([number, 0, 0, 0]), "the starting value");
+    let start = start.map(|number| Value::from([number, 0, 0, 0]));
+    assert!(rt; member.start == start, "the starting value");
     Ok(())
 }

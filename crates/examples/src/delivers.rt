@@ -18,9 +18,7 @@ fn begin(
     size: usize,
 ) -> Result<Result<Network, BeginError>, Fail> {
     let memory = vec![in heap; 7u64; size]?;
-    let Ok(limits) = Limits::new(members, 2, 1, 2) else {
-        return Err(Fail::new("no limits"));
-    };
+    let limits = Limits::new(members, 2, 1, 2).map_err(|_| Fail::new("no limits"))?;
     Ok(Network::new(memory, limits, faulty))
 }
 
@@ -31,10 +29,7 @@ fn why_not(
     faulty: Members,
     size: usize,
 ) -> Result<Option<BeginError>, Fail> {
-    match begin(heap, members, faulty, size)? {
-        Ok(_) => Ok(None),
-        Err(error) => Ok(Some(error)),
-    }
+    Ok(begin(heap, members, faulty, size)?.err())
 }
 
 // Fewer than a third are faulty: 1 of 4 and 2 of 7, and not 1 of 3, 2 of 4 or 3 of 7. Three honest members of four
@@ -70,36 +65,15 @@ fn begins(rt: HostRuntime) -> Result<(), Fail> {
 }
 
 fn four(heap: Global) -> Result<Network, Fail> {
-    match begin(heap, 4, Members::none().with(3), 3 * SIZE)? {
-        Ok(network) => Ok(network),
-        Err(_) => Err(Fail::new("not begun")),
-    }
+    begin(heap, 4, Members::none().with(3), 3 * SIZE)?.map_err(|_| Fail::new("not begun"))
 }
 
-fn delivers(rt: &impl Abort, network: &mut Network, to: u64, event: Event) -> Result<(), Fail> {
-    match network.deliver(to, event) {
-        Ok(_) => Ok(()),
-        Err(error) => {
-            assert_eq!(rt; Some(error), None);
-            Ok(())
-        }
-    }
+fn delivers(rt: &impl Abort, network: &mut Network, to: u64, event: Event) {
+    assert_eq!(rt; network.deliver(to, event).err(), None);
 }
 
-fn refuses(
-    rt: &impl Abort,
-    network: &mut Network,
-    to: u64,
-    event: Event,
-    why: DeliverError,
-) -> Result<(), Fail> {
-    match network.deliver(to, event) {
-        Ok(_) => Err(Fail::new("delivered")),
-        Err(error) => {
-            assert_eq!(rt; error, why);
-            Ok(())
-        },
-    }
+fn refuses(rt: &impl Abort, network: &mut Network, to: u64, event: Event, why: DeliverError) {
+    assert_eq!(rt; network.deliver(to, event), Err(why));
 }
 
 // A vote of a faulty member comes at any time; one of an honest member once it said it, and to all; nothing comes to a
@@ -115,45 +89,45 @@ fn comes(rt: HostRuntime) -> Result<(), Fail> {
         4,
         Event::Timeout,
         DeliverError::NotMember,
-    )?;
-    refuses(&rt, &mut network, 3, Event::Timeout, DeliverError::Faulty)?;
-    refuses(&rt, &mut network, 1, said, DeliverError::NotSaid)?;
+    );
+    refuses(&rt, &mut network, 3, Event::Timeout, DeliverError::Faulty);
+    refuses(&rt, &mut network, 1, said, DeliverError::NotSaid);
     refuses(
         &rt,
         &mut network,
         1,
         Event::Vote(vote(Kind::Soft, 1, 0, 5, 9)),
         DeliverError::NotSaid,
-    )?;
+    );
     delivers(
         &rt,
         &mut network,
         1,
         Event::Vote(vote(Kind::Soft, 1, 0, 6, 3)),
-    )?;
+    );
     delivers(
         &rt,
         &mut network,
         2,
         Event::Vote(vote(Kind::Soft, 1, 0, 5, 3)),
-    )?;
-    delivers(&rt, &mut network, 0, proposal(1, 5))?;
-    delivers(&rt, &mut network, 0, Event::Timeout)?;
-    delivers(&rt, &mut network, 1, said)?;
-    delivers(&rt, &mut network, 2, said)?;
-    refuses(&rt, &mut network, 1, other, DeliverError::NotSaid)
+    );
+    delivers(&rt, &mut network, 0, proposal(1, 5));
+    delivers(&rt, &mut network, 0, Event::Timeout);
+    delivers(&rt, &mut network, 1, said);
+    delivers(&rt, &mut network, 2, said);
+    refuses(&rt, &mut network, 1, other, DeliverError::NotSaid);
+    Ok(())
 }
 
 // Votes of a kind for 5, of each honest member, come to each of the others.
-fn exchange(rt: &impl Abort, network: &mut Network, kind: Kind) -> Result<(), Fail> {
+fn exchange(rt: &impl Abort, network: &mut Network, kind: Kind) {
     for from in 0..3 {
         for to in 0..3 {
             if from != to {
-                delivers(rt, network, to, Event::Vote(vote(kind, 1, 0, 5, from)))?;
+                delivers(rt, network, to, Event::Vote(vote(kind, 1, 0, 5, from)));
             }
         }
     }
-    Ok(())
 }
 
 // The three honest ones are a quorum, and agree; the faulty one is not looked at.
@@ -161,25 +135,22 @@ fn exchange(rt: &impl Abort, network: &mut Network, kind: Kind) -> Result<(), Fa
 fn agree(rt: HostRuntime) -> Result<(), Fail> {
     let mut network = four(rt.alloc())?;
     for to in 0..3 {
-        delivers(&rt, &mut network, to, proposal(1, 5))?;
-        delivers(&rt, &mut network, to, block(5))?;
-        delivers(&rt, &mut network, to, Event::Timeout)?;
+        delivers(&rt, &mut network, to, proposal(1, 5));
+        delivers(&rt, &mut network, to, block(5));
+        delivers(&rt, &mut network, to, Event::Timeout);
     }
-    exchange(&rt, &mut network, Kind::Soft)?;
+    exchange(&rt, &mut network, Kind::Soft);
     assert!(rt; network.agreed().is_none());
-    exchange(&rt, &mut network, Kind::Cert)?;
+    exchange(&rt, &mut network, Kind::Cert);
     assert!(rt; network.look(3).is_none());
     for i in 0..3 {
-        let Some(member) = network.look(i) else {
-            return Err(Fail::new("no honest member"));
-        };
+        let member = network
+            .look(i)
+            .ok_or_else(|| Fail::new("no honest member"))?;
         assert!(rt;
             member.me == i && member.period == 1 && member.step == 1 && member.agreed.is_some()
         );
     }
-    let Some(value) = network.agreed() else {
-        return Err(Fail::new("not agreed"));
-    };
-    assert!(rt; value == Value::from([5, 0, 0, 0]));
+    assert!(rt; network.agreed() == Some(Value::from([5, 0, 0, 0])));
     Ok(())
 }

@@ -16,11 +16,8 @@ fn nibble(digit: u8) -> u8
 pub(crate) fn unhex(digits: &[u8], out: &mut [u8]) -> usize
     ensures { result ≤ length out.new }
 {
-    for i in 0..digits.len() / 2 {
-        if i >= out.len() {
-            return out.len();
-        }
-        out[i] = nibble(digits[2 * i]) * 16 + nibble(digits[2 * i + 1]);
+    for (byte, pair) in out.iter_mut().zip(digits.chunks_exact(2)) {
+        *byte = nibble(pair[0]) * 16 + nibble(pair[1]);
     }
     out.len().min(digits.len() / 2)
 }

@@ -2,75 +2,68 @@
 use limits::Limit;
 use text::{NetworkError, read_network};
 
-fn number_of(limit: Limit) -> u64 {
-    match limit {
-        Limit::Members => 1,
-        Limit::Periods => 2,
-        Limit::Steps => 3,
-        Limit::Blocks => 4,
-    }
+// The memory that the limits of the line ask for, or why it says none.
+fn read(line: &[u8]) -> Result<u64, NetworkError> {
+    read_network(line).map(|limits| limits.memory())
 }
 
-fn refused(error: NetworkError) -> (u64, u64) {
-    match error {
-        NetworkError::NotNetwork => (1, 0),
-        NetworkError::NotNumber(limit) => (2, number_of(limit)),
-        NetworkError::OutOfRange(limit) => (3, number_of(limit)),
-    }
+fn not_number(limit: Limit) -> Result<u64, NetworkError> {
+    Err(NetworkError::NotNumber(limit))
 }
 
-// What was read, as numbers: 0 and the memory asked for; 1 for no such line; 2 and which word is no number; 3 and which
-// limit is out of range.
-fn read(line: &[u8]) -> (u64, u64) {
-    match read_network(line) {
-        Ok(limits) => (0, limits.memory()),
-        Err(error) => refused(error),
-    }
+fn out_of_range(limit: Limit) -> Result<u64, NetworkError> {
+    Err(NetworkError::OutOfRange(limit))
 }
 
 #[test]
 fn lines_that_say_limits(rt: HostRuntime) {
     // 64 + 8 * members * periods * (2 * steps + 2) + 8 * periods + 4 * blocks
-    assert_eq!(rt; read(b"network 4 4 4 4"), (0, 1392));
-    assert_eq!(rt; read(b"network 1 1 1 1"), (0, 108));
-    assert_eq!(rt; read(b"network 64 32 8 256"), (0, 296256));
+    assert_eq!(rt; read(b"network 4 4 4 4"), Ok(1392));
+    assert_eq!(rt; read(b"network 1 1 1 1"), Ok(108));
+    assert_eq!(rt; read(b"network 64 32 8 256"), Ok(296256));
 }
 
 #[test]
 fn lines_that_say_none(rt: HostRuntime) {
-    assert_eq!(rt; read(b""), (1, 0));
-    assert_eq!(rt; read(b"hello"), (1, 0));
-    assert_eq!(rt; read(b"network 4 4 4"), (1, 0));
-    assert_eq!(rt; read(b"network 4 4 4 4 4"), (1, 0));
-    assert_eq!(rt; read(b"network 4 4 4 4 "), (1, 0));
-    assert_eq!(rt; read(b"network  4 4 4 4"), (1, 0));
-    assert_eq!(rt; read(b"Network 4 4 4 4"), (1, 0));
+    assert_eq!(rt; read(b""), Err(NetworkError::NotNetwork));
+    assert_eq!(rt; read(b"hello"), Err(NetworkError::NotNetwork));
+    assert_eq!(rt; read(b"network 4 4 4"), Err(NetworkError::NotNetwork));
+    assert_eq!(rt; read(b"network 4 4 4 4 4"), Err(NetworkError::NotNetwork));
+    assert_eq!(rt; read(b"network 4 4 4 4 "), Err(NetworkError::NotNetwork));
+    assert_eq!(rt; read(b"network  4 4 4 4"), Err(NetworkError::NotNetwork));
+    assert_eq!(rt; read(b"Network 4 4 4 4"), Err(NetworkError::NotNetwork));
 }
 
 #[test]
 fn words_that_are_no_numbers(rt: HostRuntime) {
-    assert_eq!(rt; read(b"network 04 4 4 4"), (2, 1));
-    assert_eq!(rt; read(b"network 4 +4 4 4"), (2, 2));
-    assert_eq!(rt; read(b"network 4 4  4"), (2, 3));
-    assert_eq!(rt; read(b"network 4 4 4 4\r"), (2, 4));
-    assert_eq!(rt; read(b"network 4 4 4 18446744073709551616"), (2, 4));
+    assert_eq!(rt; read(b"network 04 4 4 4"), not_number(Limit::Members));
+    assert_eq!(rt; read(b"network 4 +4 4 4"), not_number(Limit::Periods));
+    assert_eq!(rt; read(b"network 4 4  4"), not_number(Limit::Steps));
+    assert_eq!(rt; read(b"network 4 4 4 4\r"), not_number(Limit::Blocks));
+    assert_eq!(rt;
+        read(b"network 4 4 4 18446744073709551616"),
+        not_number(Limit::Blocks)
+    );
     assert_eq!(rt;
         read(b"network 99999999999999999999999999999999999999 4 4 4"),
-        (2, 1)
+        not_number(Limit::Members)
     );
     // the first word that is none, before any limit
-    assert_eq!(rt; read(b"network 0 x 4 4"), (2, 2));
+    assert_eq!(rt; read(b"network 0 x 4 4"), not_number(Limit::Periods));
 }
 
 #[test]
 fn limits_out_of_range(rt: HostRuntime) {
-    assert_eq!(rt; read(b"network 0 4 4 4"), (3, 1));
-    assert_eq!(rt; read(b"network 65 4 4 4"), (3, 1));
-    assert_eq!(rt; read(b"network 4 0 4 4"), (3, 2));
-    assert_eq!(rt; read(b"network 4 33 4 4"), (3, 2));
-    assert_eq!(rt; read(b"network 4 4 0 4"), (3, 3));
-    assert_eq!(rt; read(b"network 4 4 9 4"), (3, 3));
-    assert_eq!(rt; read(b"network 4 4 4 0"), (3, 4));
-    assert_eq!(rt; read(b"network 4 4 4 257"), (3, 4));
-    assert_eq!(rt; read(b"network 4 4 4 18446744073709551615"), (3, 4));
+    assert_eq!(rt; read(b"network 0 4 4 4"), out_of_range(Limit::Members));
+    assert_eq!(rt; read(b"network 65 4 4 4"), out_of_range(Limit::Members));
+    assert_eq!(rt; read(b"network 4 0 4 4"), out_of_range(Limit::Periods));
+    assert_eq!(rt; read(b"network 4 33 4 4"), out_of_range(Limit::Periods));
+    assert_eq!(rt; read(b"network 4 4 0 4"), out_of_range(Limit::Steps));
+    assert_eq!(rt; read(b"network 4 4 9 4"), out_of_range(Limit::Steps));
+    assert_eq!(rt; read(b"network 4 4 4 0"), out_of_range(Limit::Blocks));
+    assert_eq!(rt; read(b"network 4 4 4 257"), out_of_range(Limit::Blocks));
+    assert_eq!(rt;
+        read(b"network 4 4 4 18446744073709551615"),
+        out_of_range(Limit::Blocks)
+    );
 }

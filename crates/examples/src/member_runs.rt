@@ -7,19 +7,34 @@ use wire::{Answer, Event, Kind, Refusal};
 
 // Member `me` of four is opened, and value 5 is proposed to it.
 fn proposed(rt: &impl Abort, memory: &mut [u64], me: u64) -> Result<(), Fail> {
-    let Ok(()) = open(memory, 4, 4, 4, 4, me) else {
-        return Err(Fail::new("not opened"));
-    };
+    open(memory, 4, 4, 4, 4, me).map_err(|_| Fail::new("not opened"))?;
     quiet(rt, memory, proposal(1, 5))
 }
 
+// The memory of the three honest members.
+#[derive(Clone, Copy)]
+struct Honest {
+    zero: [u64; 1392],
+    one: [u64; 1392],
+    two: [u64; 1392],
+}
+
+// All three are opened, and value 5 is proposed to them.
+fn opened(rt: &impl Abort) -> Result<Honest, Fail> {
+    let mut members = Honest {
+        zero: [7; 1392],
+        one: [7; 1392],
+        two: [7; 1392],
+    };
+    proposed(rt, &mut members.zero, 0)?;
+    proposed(rt, &mut members.one, 1)?;
+    proposed(rt, &mut members.two, 2)?;
+    Ok(members)
+}
+
 // Time is up for the first time, and each says its soft vote.
-fn vote_first(
-    rt: &impl Abort,
-    zero: &mut [u64],
-    one: &mut [u64],
-    two: &mut [u64],
-) -> Result<(), Fail> {
+fn vote_first(rt: &impl Abort, honest: &mut Honest) -> Result<(), Fail> {
+    let Honest { zero, one, two } = honest;
     says(rt, zero, Event::Timeout, vote(Kind::Soft, 1, 0, 5, 0))?;
     says(rt, one, Event::Timeout, vote(Kind::Soft, 1, 0, 5, 1))?;
     says(rt, two, Event::Timeout, vote(Kind::Soft, 1, 0, 5, 2))?;
@@ -29,12 +44,8 @@ fn vote_first(
 }
 
 // Member 0 is certain, the others are not.
-fn one_certain(
-    rt: &impl Abort,
-    zero: &mut [u64],
-    one: &mut [u64],
-    two: &mut [u64],
-) -> Result<(), Fail> {
+fn one_certain(rt: &impl Abort, honest: &mut Honest) -> Result<(), Fail> {
+    let Honest { zero, one, two } = honest;
     hears(rt, zero, vote(Kind::Soft, 1, 0, 5, 1))?;
     let again = Event::Vote(vote(Kind::Soft, 1, 0, 5, 1));
     answers(rt, zero, again, Answer::Refused(Refusal::VotedBefore, 0))?;
@@ -56,12 +67,8 @@ fn one_certain(
 }
 
 // Member 2 goes on with none, member 1 with value 5.
-fn two_go_on(
-    rt: &impl Abort,
-    zero: &mut [u64],
-    one: &mut [u64],
-    two: &mut [u64],
-) -> Result<(), Fail> {
+fn two_go_on(rt: &impl Abort, honest: &mut Honest) -> Result<(), Fail> {
+    let Honest { zero, one, two } = honest;
     hears(rt, two, vote(Kind::NextNone, 1, 2, 0, 1))?;
     stands(rt, two, 1, 2, None)?;
     hears(rt, two, vote(Kind::NextNone, 1, 2, 0, 3))?;
@@ -84,26 +91,17 @@ fn two_go_on(
 
 #[test]
 fn two_ways(rt: HostRuntime) -> Result<(), Fail> {
-    let mut zero = [7; 1392];
-    let mut one = [7; 1392];
-    let mut two = [7; 1392];
-    proposed(&rt, &mut zero, 0)?;
-    proposed(&rt, &mut one, 1)?;
-    proposed(&rt, &mut two, 2)?;
-    quiet(&rt, &mut zero, block(5))?;
-    quiet(&rt, &mut one, block(5))?;
-    vote_first(&rt, &mut zero, &mut one, &mut two)?;
-    one_certain(&rt, &mut zero, &mut one, &mut two)?;
-    two_go_on(&rt, &mut zero, &mut one, &mut two)
+    let mut honest = opened(&rt)?;
+    quiet(&rt, &mut honest.zero, block(5))?;
+    quiet(&rt, &mut honest.one, block(5))?;
+    vote_first(&rt, &mut honest)?;
+    one_certain(&rt, &mut honest)?;
+    two_go_on(&rt, &mut honest)
 }
 
 // Each is certain, though member 3 votes first for 5 to one and for 6 to another.
-fn all_certain(
-    rt: &impl Abort,
-    zero: &mut [u64],
-    one: &mut [u64],
-    two: &mut [u64],
-) -> Result<(), Fail> {
+fn all_certain(rt: &impl Abort, honest: &mut Honest) -> Result<(), Fail> {
+    let Honest { zero, one, two } = honest;
     hears(rt, zero, vote(Kind::Soft, 1, 0, 5, 3))?;
     says(
         rt,
@@ -128,12 +126,8 @@ fn all_certain(
     )
 }
 
-fn each_agrees(
-    rt: &impl Abort,
-    zero: &mut [u64],
-    one: &mut [u64],
-    two: &mut [u64],
-) -> Result<(), Fail> {
+fn each_agrees(rt: &impl Abort, honest: &mut Honest) -> Result<(), Fail> {
+    let Honest { zero, one, two } = honest;
     hears(rt, zero, vote(Kind::Cert, 1, 0, 5, 1))?;
     agrees(rt, zero, Event::Vote(vote(Kind::Cert, 1, 0, 5, 2)), 5)?;
     hears(rt, one, vote(Kind::Cert, 1, 0, 6, 3))?;
@@ -151,16 +145,11 @@ fn each_agrees(
 
 #[test]
 fn all_agree(rt: HostRuntime) -> Result<(), Fail> {
-    let mut zero = [7; 1392];
-    let mut one = [7; 1392];
-    let mut two = [7; 1392];
-    proposed(&rt, &mut zero, 0)?;
-    proposed(&rt, &mut one, 1)?;
-    proposed(&rt, &mut two, 2)?;
-    quiet(&rt, &mut zero, block(5))?;
-    quiet(&rt, &mut one, block(5))?;
-    quiet(&rt, &mut two, block(5))?;
-    vote_first(&rt, &mut zero, &mut one, &mut two)?;
-    all_certain(&rt, &mut zero, &mut one, &mut two)?;
-    each_agrees(&rt, &mut zero, &mut one, &mut two)
+    let mut honest = opened(&rt)?;
+    quiet(&rt, &mut honest.zero, block(5))?;
+    quiet(&rt, &mut honest.one, block(5))?;
+    quiet(&rt, &mut honest.two, block(5))?;
+    vote_first(&rt, &mut honest)?;
+    all_certain(&rt, &mut honest)?;
+    each_agrees(&rt, &mut honest)
 }

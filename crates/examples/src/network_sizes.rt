@@ -10,9 +10,7 @@ use wire::{Answer, Event, Kind, Refusal, Said};
 #[test]
 fn one_agrees(rt: HostRuntime) -> Result<(), Fail> {
     let mut memory = [7; 148];
-    let Ok(()) = open(&mut memory, 1, 2, 1, 1, 0) else {
-        return Err(Fail::new("not opened"));
-    };
+    open(&mut memory, 1, 2, 1, 1, 0).map_err(|_| Fail::new("not opened"))?;
     quiet(&rt, &mut memory, proposal(1, 5))?;
     quiet(&rt, &mut memory, block(5))?;
     let said = Said::Two(vote(Kind::Soft, 1, 0, 5, 0), vote(Kind::Cert, 1, 0, 5, 0));
@@ -34,9 +32,7 @@ fn one_agrees(rt: HostRuntime) -> Result<(), Fail> {
 #[test]
 fn one_waits(rt: HostRuntime) -> Result<(), Fail> {
     let mut memory = [7; 148];
-    let Ok(()) = open(&mut memory, 1, 2, 1, 1, 0) else {
-        return Err(Fail::new("not opened"));
-    };
+    open(&mut memory, 1, 2, 1, 1, 0).map_err(|_| Fail::new("not opened"))?;
     quiet(&rt, &mut memory, proposal(1, 5))?;
     says(
         &rt,
@@ -57,9 +53,7 @@ fn one_waits(rt: HostRuntime) -> Result<(), Fail> {
 #[test]
 fn one_goes_on(rt: HostRuntime) -> Result<(), Fail> {
     let mut memory = [7; 148];
-    let Ok(()) = open(&mut memory, 1, 2, 1, 1, 0) else {
-        return Err(Fail::new("not opened"));
-    };
+    open(&mut memory, 1, 2, 1, 1, 0).map_err(|_| Fail::new("not opened"))?;
     quiet(&rt, &mut memory, Event::Timeout)?;
     says(
         &rt,
@@ -94,9 +88,7 @@ fn hears_41(rt: &impl Abort, memory: &mut [u64], kind: Kind) -> Result<(), Fail>
 #[test]
 fn sixty_four(rt: HostRuntime) -> Result<(), Fail> {
     let mut memory = [7; 2124];
-    let Ok(()) = open(&mut memory, 64, 1, 1, 1, 0) else {
-        return Err(Fail::new("not opened"));
-    };
+    open(&mut memory, 64, 1, 1, 1, 0).map_err(|_| Fail::new("not opened"))?;
     quiet(&rt, &mut memory, proposal(1, 5))?;
     quiet(&rt, &mut memory, block(5))?;
     says(

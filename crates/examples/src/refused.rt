@@ -8,9 +8,7 @@ use wire::{Answer, Event, Kind, Refusal, Vote};
 // Member 0 of 4, with 2 periods, 2 times to go on and 2 blocks, which is 472 numbers.
 pub(crate) fn opened() -> Result<[u64; 472], Fail> {
     let mut memory = [7; 472];
-    let Ok(()) = open(&mut memory, 4, 2, 2, 2, 0) else {
-        return Err(Fail::new("not opened"));
-    };
+    open(&mut memory, 4, 2, 2, 2, 0).map_err(|_| Fail::new("not opened"))?;
     Ok(memory)
 }
 
@@ -31,10 +29,8 @@ fn refuses(
 fn no_event(rt: &impl Abort, bytes: &[u8], place: u64) -> Result<(), Fail> {
     let mut memory = opened()?;
     let before = memory;
-    let Ok(given) = call(&mut memory, bytes) else {
-        return Err(Fail::new("not open"));
-    };
-    assert!(rt; given == Answer::Refused(Refusal::NoEvent, place));
+    let refused = Answer::Refused(Refusal::NoEvent, place);
+    assert_eq!(rt; call(&mut memory, bytes), Ok(refused));
     assert!(rt; memory == before, "nothing changes");
     Ok(())
 }

@@ -100,9 +100,7 @@ fn check_edges(rt: &impl Abort, votes: &mut [u64], limits: Limits, quorum: u64) 
 }
 
 fn check_row(rt: &impl Abort, members: u64, quorum: u64) -> Result<(), Fail> {
-    let Ok(limits) = Limits::new(members, 1, 1, 1) else {
-        return Err(Fail::new("limits"));
-    };
+    let limits = Limits::new(members, 1, 1, 1).map_err(|_| Fail::new("limits"))?;
     let size = votes_size(limits) as usize;
     let mut memory = [7; 2048];
     assert!(rt; size <= 2048);
@@ -168,21 +166,13 @@ fn hear_all(rt: &impl Abort, votes: &mut [u64], limits: Limits)
 
 // How many entries were heard in.
 fn heard(votes: &[u64]) -> usize {
-    let mut count = 0;
-    for i in 0..votes.len() / 8 {
-        if votes[8 * i] == 1 {
-            count += 1;
-        }
-    }
-    count
+    votes.chunks_exact(8).filter(|entry| entry[0] == 1).count()
 }
 
 // The 64 * 32 * 18 votes lie in as many entries, which are all that there are.
 #[test]
 fn all_slots(rt: HostRuntime) -> Result<(), Fail> {
-    let Ok(limits) = Limits::new(64, 32, 8, 256) else {
-        return Err(Fail::new("limits"));
-    };
+    let limits = Limits::new(64, 32, 8, 256).map_err(|_| Fail::new("limits"))?;
     assert_eq!(rt; votes_size(limits), 294912);
     let mut memory = vec![in rt.alloc(); 7; votes_size(limits) as usize]?;
     hear_all(&rt, &mut memory, limits);

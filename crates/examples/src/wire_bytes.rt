@@ -1,5 +1,6 @@
 // The bytes of each event and answer, written out by hand, and each first byte with too little, enough and too much.
 use crate::hex::unhex;
+use std::cmp::Ordering;
 use std::process::Abort;
 use std::test::Fail;
 use values::Value;
@@ -19,23 +20,48 @@ fn first_vote(kind: Kind) -> Vote {
     }
 }
 
-// The event has just these bytes: they are read as it, and it is written as them; what comes after them stays, and with
-// a byte less of room nothing is written.
-fn check_event(rt: &impl Abort, event: Event, digits: &[u8]) -> Result<(), Fail> {
-    let mut bytes = [0; 80];
+// What has bytes of its own.
+trait Coded: Copy + PartialEq {
+    fn read(bytes: &[u8]) -> Result<Self, usize>;
+
+    fn write(self, out: &mut [u8]) -> Result<usize, usize>;
+}
+
+impl Coded for Event {
+    fn read(bytes: &[u8]) -> Result<Event, usize> {
+        read_event(bytes)
+    }
+
+    fn write(self, out: &mut [u8]) -> Result<usize, usize> {
+        write_event(out, self)
+    }
+}
+
+impl Coded for Answer {
+    fn read(bytes: &[u8]) -> Result<Answer, usize> {
+        read_answer(bytes)
+    }
+
+    fn write(self, out: &mut [u8]) -> Result<usize, usize> {
+        write_answer(out, self)
+    }
+}
+
+// It has just these bytes: they are read as it, and it is written as them; what comes after them stays, and with a byte
+// less of room nothing is written.
+fn check<T: Coded>(rt: &impl Abort, coded: T, digits: &[u8]) -> Result<(), Fail> {
+    let mut bytes = [0; 180];
     let n = unhex(digits, &mut bytes);
-    let Ok(read) = read_event(&bytes[0..n]) else {
-        return Err(Fail::new("no event"));
-    };
-    assert!(rt; read == event, "the event read");
-    let mut out = [170; 80];
-    assert_eq!(rt; write_event(&mut out, event), Ok(n));
-    assert!(rt; n > 0 && n < 80);
+    let read = T::read(&bytes[0..n]).map_err(|_| Fail::new("not read"))?;
+    assert!(rt; read == coded, "what is read");
+    let mut out = [170; 180];
+    assert_eq!(rt; coded.write(&mut out), Ok(n));
+    assert!(rt; n > 0 && n < 180);
     assert!(rt; &out[0..n] == &bytes[0..n], "the bytes written");
     assert_eq!(rt; out[n], 170);
-    let mut tight = [170; 80];
-    assert_eq!(rt; write_event(&mut tight[0..n - 1], event), Err(n));
-    assert!(rt; tight == [170; 80], "nothing is written");
+    let mut tight = [170; 180];
+    assert_eq!(rt; coded.write(&mut tight[0..n - 1]), Err(n));
+    assert!(rt; tight == [170; 180], "nothing is written");
     Ok(())
 }
 
@@ -49,7 +75,7 @@ fn vote_bytes(rt: HostRuntime) -> Result<(), Fail> {
         value,
         from: 6,
     };
-    check_event(
+    check(
         &rt,
         Event::Vote(vote),
         b"00\
@@ -69,7 +95,7 @@ fn vote_of_no_kind(rt: HostRuntime) -> Result<(), Fail> {
         value: Value::zero(),
         from: 0,
     };
-    check_event(
+    check(
         &rt,
         Event::Vote(vote),
         b"00\
@@ -86,7 +112,7 @@ fn proposal_bytes(rt: HostRuntime) -> Result<(), Fail> {
         rank: 7,
         value: Value::from([5, 0, 0, 0]),
     };
-    check_event(
+    check(
         &rt,
         Event::Proposal(proposal),
         b"01\
@@ -98,18 +124,18 @@ fn proposal_bytes(rt: HostRuntime) -> Result<(), Fail> {
 #[test]
 fn block_bytes(rt: HostRuntime) -> Result<(), Fail> {
     let value = Value::from([0, 1, 0, 0]);
-    check_event(
+    check(
         &rt,
         Event::Block(value),
         b"020000000000000000010000000000000000000000000000000000000000000000",
     )?;
-    check_event(
+    check(
         &rt,
         Event::Block(Value::zero()),
         b"020000000000000000000000000000000000000000000000000000000000000000",
     )?;
     let most = Value::from([u64::MAX, u64::MAX, u64::MAX, u64::MAX]);
-    check_event(
+    check(
         &rt,
         Event::Block(most),
         b"02ffffffffffffffffffffffffffffffffffffffffffffffffffffffffffffffff",
@@ -118,7 +144,7 @@ fn block_bytes(rt: HostRuntime) -> Result<(), Fail> {
 
 #[test]
 fn timeout_bytes(rt: HostRuntime) -> Result<(), Fail> {
-    check_event(&rt, Event::Timeout, b"03")
+    check(&rt, Event::Timeout, b"03")
 }
 
 // Where so many bytes with this first one, and zeros after it, cease to be an event; none if they are one.
@@ -128,20 +154,15 @@ fn place(first: u8, count: usize) -> Option<usize> {
     if count > 70 {
         return None;
     }
-    match read_event(&bytes[0..count]) {
-        Ok(_) => None,
-        Err(place) => Some(place),
-    }
+    read_event(&bytes[0..count]).err()
 }
 
 // Where they should: an event of so many bytes in all.
 fn expected(size: usize, count: usize) -> Option<usize> {
-    if count < size {
-        Some(count)
-    } else if size < count {
-        Some(size)
-    } else {
-        None
+    match count.cmp(&size) {
+        Ordering::Less => Some(count),
+        Ordering::Equal => None,
+        Ordering::Greater => Some(size),
     }
 }
 
@@ -162,33 +183,14 @@ fn each_first_byte(rt: HostRuntime) {
     }
 }
 
-// The answer has just these bytes, as with events.
-fn check_answer(rt: &impl Abort, answer: Answer, digits: &[u8]) -> Result<(), Fail> {
-    let mut bytes = [0; 180];
-    let n = unhex(digits, &mut bytes);
-    let Ok(read) = read_answer(&bytes[0..n]) else {
-        return Err(Fail::new("no answer"));
-    };
-    assert!(rt; read == answer, "the answer read");
-    let mut out = [170; 180];
-    assert_eq!(rt; write_answer(&mut out, answer), Ok(n));
-    assert!(rt; n > 0 && n < 180);
-    assert!(rt; &out[0..n] == &bytes[0..n], "the bytes written");
-    assert_eq!(rt; out[n], 170);
-    let mut tight = [170; 180];
-    assert_eq!(rt; write_answer(&mut tight[0..n - 1], answer), Err(n));
-    assert!(rt; tight == [170; 180], "nothing is written");
-    Ok(())
-}
-
 #[test]
 fn refused_bytes(rt: HostRuntime) -> Result<(), Fail> {
-    check_answer(
+    check(
         &rt,
         Answer::Refused(Refusal::NoEvent, 65),
         b"0001000000000000004100000000000000",
     )?;
-    check_answer(
+    check(
         &rt,
         Answer::Refused(Refusal::NoMoreBlocks, 0),
         b"0006000000000000000000000000000000",
@@ -197,7 +199,7 @@ fn refused_bytes(rt: HostRuntime) -> Result<(), Fail> {
 
 #[test]
 fn silent_bytes(rt: HostRuntime) -> Result<(), Fail> {
-    check_answer(
+    check(
         &rt,
         Answer::Says(Said::Nothing, None),
         b"01000000000000000000",
@@ -206,7 +208,7 @@ fn silent_bytes(rt: HostRuntime) -> Result<(), Fail> {
 
 #[test]
 fn one_vote_bytes(rt: HostRuntime) -> Result<(), Fail> {
-    check_answer(
+    check(
         &rt,
         Answer::Says(Said::One(first_vote(Kind::Soft)), None),
         b"01\
@@ -220,7 +222,7 @@ fn one_vote_bytes(rt: HostRuntime) -> Result<(), Fail> {
 
 #[test]
 fn agreed_bytes(rt: HostRuntime) -> Result<(), Fail> {
-    check_answer(
+    check(
         &rt,
         Answer::Says(Said::Nothing, Some(Value::from([5, 0, 0, 0]))),
         b"010000000000000000010500000000000000000000000000000000000000000000000000000000000000",
@@ -230,7 +232,7 @@ fn agreed_bytes(rt: HostRuntime) -> Result<(), Fail> {
 #[test]
 fn two_votes_bytes(rt: HostRuntime) -> Result<(), Fail> {
     let said = Said::Two(first_vote(Kind::Soft), first_vote(Kind::Cert));
-    check_answer(
+    check(
         &rt,
         Answer::Says(said, Some(Value::from([5, 0, 0, 0]))),
         b"01\
@@ -250,10 +252,7 @@ fn two_votes_bytes(rt: HostRuntime) -> Result<(), Fail> {
 fn answer_place(digits: &[u8]) -> Option<usize> {
     let mut bytes = [0; 180];
     let n = unhex(digits, &mut bytes);
-    match read_answer(&bytes[0..n]) {
-        Ok(_) => None,
-        Err(place) => Some(place),
-    }
+    read_answer(&bytes[0..n]).err()
 }
 
 #[test]

@@ -3,7 +3,7 @@
 #![tactic(auto)]
 
 use anyhow::{Context, anyhow};
-use limits::{Limit, Limits};
+use limits::Limits;
 use lines::{AnswerLines, read_line};
 use member::{OpenError, call, open};
 use std::io::{BufRead, BufReader, Read};
@@ -104,18 +104,6 @@ fn arguments(rt: &HostRuntime) -> anyhow::Result<Asked> {
     Ok(asked)
 }
 
-fn why(error: OpenError) -> anyhow::Error {
-    let line = match error {
-        OpenError::OutOfRange(Limit::Members) => "MEMBERS is not 1 to 64",
-        OpenError::OutOfRange(Limit::Periods) => "PERIODS is not 1 to 32",
-        OpenError::OutOfRange(Limit::Steps) => "STEPS is not 1 to 8",
-        OpenError::OutOfRange(Limit::Blocks) => "BLOCKS is not 1 to 256",
-        OpenError::NotMember => "ME is not below MEMBERS",
-        OpenError::TooShort(_) => "the memory is too short",
-    };
-    anyhow!("{line}")
-}
-
 fn run(rt: &HostRuntime) -> anyhow::Result<()> {
     let Asked {
         members,
@@ -124,11 +112,9 @@ fn run(rt: &HostRuntime) -> anyhow::Result<()> {
         blocks,
         me,
     } = arguments(rt)?;
-    let limits = Limits::new(members, periods, steps, blocks).map_err(|limit| why(
-        OpenError::OutOfRange(limit),
-    ))?;
+    let limits = Limits::new(members, periods, steps, blocks).map_err(OpenError::OutOfRange)?;
     let mut memory = vec![in rt.alloc(); 0; limits.memory() as usize]?;
-    open(memory.as_mut_slice(), members, periods, steps, blocks, me).map_err(why)?;
+    open(memory.as_mut_slice(), members, periods, steps, blocks, me)?;
     play(rt, &mut memory)
 }
 

@@ -4,6 +4,7 @@ ghost use Rattle.std.specs.Prelude.{◌≡◌};
 use limits::Limits;
 use network::Members;
 use script::{FaultyError, first_line, read_faulty};
+use std::error::Error;
 use std::fmt;
 use text::{NetworkError, read_network};
 
@@ -32,7 +33,7 @@ pub(crate) struct Header {
 }
 
 // Why a file has no header.
-#[derive(Clone, Copy, Drop)]
+#[derive(Clone, Copy, Debug)]
 pub(crate) enum HeaderError {
     Empty,
     NoLimits(NetworkError),
@@ -63,6 +64,8 @@ impl fmt::Display for HeaderError {
         }
     }
 }
+
+impl Error for HeaderError {}
 
 fn read_limits(script: &mut Script) -> Result<Limits, HeaderError> {
     let (line, rest) = first_line(script.rest).ok_or(HeaderError::Empty)?;

@@ -66,7 +66,7 @@ pub(crate) fn play(rt: &HostRuntime, path: &str, lent: u64) -> anyhow::Result<()
         rest: text.as_slice(),
         at: 0,
     };
-    let header = read_header(&mut script).map_err(|error| anyhow!("{error}"))?;
+    let header = read_header(&mut script)?;
     let mut network = begin(rt, header, lent)?;
     play_lines(rt, &mut network, script)?;
     show_members(rt, &network, header.limits.members)
