@@ -18,11 +18,11 @@ returns c =
     let l = limits_of all c.args.limits in
     let p = c.args.period in
     let x = c.zero.result in
-    let k = c.number.result in
+    let k = c.into.result in
     let s = c.match-place.kind.1 in
     let some = c.requires.some in
     let few = c.requires.few in
-    let kind = c.number.ensures.is in
+    let kind = c.into.ensures in
     let slot : slot_in_range l k p s ≡ true =
     elim c.match-place.branch [
       | in-0 w ↦ slot_at l p k s 0 0

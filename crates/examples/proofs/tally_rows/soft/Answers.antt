@@ -9,7 +9,7 @@ pub returns : goal.returns
 returns c =
     let l = limits_of all c.args.limits in
     let x = c.value.result in
-    let kind : c.number.result ≡ 0 = c.number.ensures.is in
+    let kind : c.into.result ≡ 0 = c.into.ensures in
     record {
       good = vote-good l _ (rw kind (alone_good l 0 1 (omega arith) (omega arith) c.args.limits.some_period))
           c.requires.from (value_below x.limbs x.four x.fit) (λ e. omega (arith, e, kind));
