@@ -23,10 +23,11 @@ impl Limit {
         ensures is { MatchResult result (λ _. within (most self) number ≡ true)
             (λ e. (within (most self) number ≡ false) × (e ≡ self)) }
     {
-        if number < 1 || number > self.most() {
-            return Err(self);
+        if (1..=self.most()).contains(&number) {
+            Ok(())
+        } else {
+            Err(self)
         }
-        Ok(())
     }
 }
 

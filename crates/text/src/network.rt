@@ -5,6 +5,7 @@ ghost use Rattle.text.specs.Network.{Fields, IsNumber, Reads, error_text};
 use super::numbers::number;
 use super::words::{cut, is_word};
 use limits::{Limit, Limits};
+use std::error::Error;
 use std::fmt;
 
 // Why a line gives no limits.
@@ -39,6 +40,8 @@ impl fmt::Display for NetworkError {
         }
     }
 }
+
+impl Error for NetworkError {}
 
 // The four words after `network`.
 // Kept so: the words are named where they are taken apart, at once; a struct for them would name them twice.

@@ -35,8 +35,8 @@ impl FromDigits for u64 {
     }
 }
 
-// The number that a word spells in decimal, with no zeros before it; none if it spells none below the type's end. Up to
-// 2^64 it is spelled as std writes it.
+// The number that a word spells in decimal, with no zeros before it; none if it spells none below the type's end. For a
+// type that ends at 2^64 or before, words are as std writes numbers.
 pub fn number<N: FromDigits>(word: &[u8]) -> Option<N>
     ensures is { MatchOption result ((n : ℕ) → n < N.end → word.now ≢ spelled n)
         (λ n. word.now ≡ spelled (N.value n)) }

@@ -12,7 +12,7 @@ impl Value {
         ensures is { value_of result ≡ le_number bytes }
         ensures back { le_bytes 32 (value_of result) ≡ bytes }
     {
-        let (words, _) = bytes.as_chunks();
+        let (words, _) = bytes.as_chunks::<8>();
         Value::from(array::from_fn(|i| u64::from_le_bytes(words[i])))
     }
 
@@ -25,6 +25,8 @@ impl Value {
         words.as_flattened().try_into().unwrap()
     }
 }
+
+// Kept so: four functions of a line each; a trait over `u64` and `Value`, with its laws and two impls, would be longer.
 
 // The number that eight bytes write.
 #[tactic(auto, using(crate::proofs::Words::word_number, crate::proofs::Places::bytes_back))]

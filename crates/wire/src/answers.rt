@@ -16,26 +16,19 @@ use values::{Value, read_number, read_value, write_number, write_value};
 
 #[derive(Clone, Copy, Debug, PartialEq, Eq)]
 pub enum Refusal {
-    NoEvent,
-    OutOfRange,
-    AgreedBefore,
-    VotedBefore,
-    NoMoreTime,
-    NoMoreBlocks,
+    NoEvent = 1,
+    OutOfRange = 2,
+    AgreedBefore = 3,
+    VotedBefore = 4,
+    NoMoreTime = 5,
+    NoMoreBlocks = 6,
 }
 
 impl From<Refusal> for u64 {
     ghost from_gives = { λ refusal number. number ≡ refusal_number refusal };
 
     fn from(refusal: Refusal) -> u64 {
-        match refusal {
-            Refusal::NoEvent => 1,
-            Refusal::OutOfRange => 2,
-            Refusal::AgreedBefore => 3,
-            Refusal::VotedBefore => 4,
-            Refusal::NoMoreTime => 5,
-            Refusal::NoMoreBlocks => 6,
-        }
+        refusal as u64
     }
 }
 

@@ -4,7 +4,7 @@ ghost use Rattle.std.specs.Prelude.{◌++◌, Some, codes, decimal};
 use std::error::Error;
 use std::fmt;
 
-// No kind has this number, or no refusal.
+// A number that is no kind's, or no refusal's.
 #[derive(Clone, Copy, Debug, PartialEq, Eq)]
 pub struct UnknownNumber(pub u64);
 

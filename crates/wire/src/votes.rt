@@ -12,22 +12,17 @@ use values::{Value, read_number, read_value, write_number, write_value};
 // The kinds that are known good.
 #[derive(Clone, Copy, Debug, PartialEq, Eq)]
 pub enum Kind {
-    Soft,
-    Cert,
-    Next,
-    NextNone,
+    Soft = 0,
+    Cert = 1,
+    Next = 2,
+    NextNone = 3,
 }
 
 impl From<Kind> for u64 {
     ghost from_gives = { λ kind number. number ≡ kind_number kind };
 
     fn from(kind: Kind) -> u64 {
-        match kind {
-            Kind::Soft => 0,
-            Kind::Cert => 1,
-            Kind::Next => 2,
-            Kind::NextNone => 3,
-        }
+        kind as u64
     }
 }
 
