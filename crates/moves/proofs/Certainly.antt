@@ -47,9 +47,3 @@ first_in_range x k v first few = record {
   steps = λ h. absurd (omega arith);
   no_value = λ h. absurd (omega arith);
 }
-
-pub first_said : (x : code.Member) (k : ℕ) (v : Value) (r : code-vote.Vote) → vote_of r ≡ own_vote x k 0 (value_of v) →
-    k < next →
-    x.period ≤ x.limits.periods → vote_in_range (lim x) (vote_of r) ≡ true
-first_said x k v r e first few =
-    subst (λ (w : Vote). vote_in_range (lim x) w ≡ true) (sym e) (range_test (lim x) _ (first_in_range x k v first few))

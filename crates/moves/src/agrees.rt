@@ -1,5 +1,5 @@
 // When a member agrees: on the value of a cert vote, or of a block.
-// Kept so: a member is taken by value, beside lent memory, and handed back, by a rule of the project.
+// Kept so: a member is by value beside lent memory, and handed back, by a rule of the project: hence `long` and `same`.
 // Kept so: a `ValidVote` would bring limits of its own, and each call would have to show that they are the member's.
 ghost use Rattle.std.specs.Prelude.{◌≡◌, ℕ, ◌≤◌, true, List, length};
 ghost use Rattle.protocol.specs.Member.{vote_in_range, having_agreed};

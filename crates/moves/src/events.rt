@@ -1,5 +1,5 @@
 // What a member does with each event that it takes: the moves in their order. The header is written afterwards.
-// Kept so: a member is taken by value, beside lent memory, and handed back, by a rule of the project.
+// Kept so: a member is by value beside lent memory, and handed back, by a rule of the project: hence `long` and `same`.
 // Kept so: a vote or proposal in range by type brings limits of its own, to be shown to be the member's at each call.
 ghost use Rattle.std.specs.Prelude.{◌≡◌, ℕ, ◌≤◌, true, false, List, ◌++◌, length, IfSome, MatchOption, ◌≢◌};
 ghost use Rattle.protocol.specs.Vote.{slot_taken};

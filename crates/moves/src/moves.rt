@@ -1,8 +1,9 @@
 // What a member does: each move takes it by value, with its memory, and hands it back.
-// Kept so: a member is taken by value, beside lent memory, and handed back, by a rule of the project.
+// Kept so: a member is by value beside lent memory, and handed back, by a rule of the project: hence `long` and `same`.
 // Kept so: a `ValidVote` would bring limits of its own, and each call would have to show that they are the member's.
-ghost use Rattle.std.specs.Prelude.{◌≡◌, ℕ, ◌+◌, ◌≤◌, true, List, length, is_none};
-ghost use Rattle.protocol.specs.Member.{vote_in_range, own, now_certain};
+ghost use Rattle.std.specs.Prelude.{◌≡◌, ℕ, ◌+◌, ◌≤◌, true, false, List, length, is_none};
+ghost use Rattle.protocol.specs.Vote.{slot_taken};
+ghost use Rattle.protocol.specs.Member.{vote_in_range, own, with_vote, now_certain};
 ghost use Rattle.protocol.specs.Member.{in_period, silent, onward, certainly};
 ghost use Rattle.protocol.specs.Programs.{memory_size};
 ghost use Rattle.values.specs.Values.{value_of};
@@ -59,6 +60,24 @@ impl Member {
         }
     }
 
+    // Says a vote of its own in a slot that is free, and hears it itself.
+    pub(crate) fn say(self, memory: &mut [u64], kind: Kind, step: u64, value: Value) -> Vote
+        requires long { memory_size (lim self) ≤ length memory.old }
+        requires vote { vote_in_range (lim self) (own_vote self (kind_number kind) step (value_of value)) ≡ true }
+        ensures is { (m : OfMember) → Stands self memory.old m →
+            slot_taken (own m (kind_number kind) step (value_of value)) m.votes ≡ false →
+            Stands self memory.new (with_vote (own m (kind_number kind) step (value_of value)) m) }
+        ensures said { (m : OfMember) → Stands self memory.old m →
+            vote_of result ≡ own m (kind_number kind) step (value_of value) }
+        ensures only { OnlyIn of_votes (lim self) memory.old memory.new }
+        ensures ranged { vote_in_range (lim self) (vote_of result) ≡ true }
+    {
+        let limits = self.limits;
+        let vote = self.own(kind, step, value);
+        hear_vote(memory, ValidVote { limits, vote });
+        vote
+    }
+
     // Onward with this start, or free with none, if the vote is of its period or a later one and has a quorum.
     fn on_to(self, memory: &[u64], vote: Vote, start: Option<Value>) -> Member
         requires long { memory_size (lim self) ≤ length memory.now }
@@ -106,9 +125,7 @@ impl Member {
         let Some(value) = self.chosen(memory) else {
             return (self, None);
         };
-        let limits = self.limits;
-        let vote = self.own(Kind::Cert, 0, value);
-        hear_vote(memory, ValidVote { limits, vote });
+        let vote = self.say(memory, Kind::Cert, 0, value);
         (self.now_certain(), Some(vote))
     }
 }

@@ -23,7 +23,7 @@ use std::ops::Range;
 use tally::{HeardVotes, ValidVote, blocks_size, proposals_size, votes_size};
 use values::Value;
 
-// The votes lie behind the header,
+// The part of the votes: it lies behind the header.
 fn votes_range(limits: Limits) -> Range<usize>
     ensures start { result.start ≡ 64 }
     ensures end { result.end ≡ votes_end (limits_of all limits) }
@@ -32,7 +32,7 @@ fn votes_range(limits: Limits) -> Range<usize>
     64..end
 }
 
-// the proposals behind the votes,
+// The part of the proposals: it lies behind the votes.
 fn proposals_range(limits: Limits) -> Range<usize>
     ensures start { result.start ≡ votes_end (limits_of all limits) }
     ensures end { result.end ≡ proposals_end (limits_of all limits) }
@@ -42,7 +42,7 @@ fn proposals_range(limits: Limits) -> Range<usize>
     start..end
 }
 
-// and the blocks behind the proposals.
+// The part of the blocks: it lies behind the proposals.
 // Kept so: one function for both would take a place and a size, and ask that their sum fits; these ask nothing.
 fn blocks_range(limits: Limits) -> Range<usize>
     ensures start { result.start ≡ proposals_end (limits_of all limits) }

@@ -4,7 +4,7 @@ ghost use Rattle.std.specs.Prelude.{◌+◌, ◌-◌, ◌<◌, ◌≤◌};
 use limits::Limits;
 use values::Value;
 
-// Kept so: memory may hold `start` and `free` in any combination, and `look` promises each; `certain` has no value.
+// Kept so: memory may hold `start` and `free` as it likes, and `look` promises each; `certain` stands beside no value.
 #[derive(Clone, Copy)]
 pub struct Member {
     pub limits: Limits,

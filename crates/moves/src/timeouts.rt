@@ -1,41 +1,21 @@
 // When time is up: the soft vote of a period, and votes to go on.
-// Kept so: a member is taken by value, beside lent memory, and handed back, by a rule of the project.
+// Kept so: a member is by value beside lent memory, and handed back, by a rule of the project: hence `long` and `same`.
 ghost use Rattle.std.specs.Prelude.{◌≡◌, ℕ, suc, ◌+◌, ◌≤◌, true, false, List, length};
 ghost use Rattle.protocol.specs.Vote.{soft, slot_taken};
-ghost use Rattle.protocol.specs.Member.{vote_in_range, chosen, own, with_vote, at_step, soft_value, next_vote};
+ghost use Rattle.protocol.specs.Member.{vote_in_range, chosen, own, at_step, soft_value, next_vote};
 ghost use Rattle.protocol.specs.Programs.{memory_size};
 ghost use Rattle.values.specs.Values.{value_of};
 ghost use Rattle.wire.specs.Meaning.{kind_number, vote_of};
 ghost use Rattle.cells.specs.Cells.{listed};
 ghost use Rattle.moves.specs.Parts.{OnlyIn, of_votes};
 ghost use Rattle.moves.specs.Stands.{lim, Stands};
-ghost use Rattle.moves.specs.Moves.{OfMember, Same, own_vote, GoesOn, SaidSoft, SaidNext};
+ghost use Rattle.moves.specs.Moves.{OfMember, Same, GoesOn, SaidSoft, SaidNext};
 
-use super::parts::hear_vote;
 use super::state::{Member, WithTime};
-use tally::ValidVote;
 use values::Value;
 use wire::{Kind, Vote};
 
 impl Member {
-    // Says a vote of its own in a slot that is free, and hears it itself.
-    fn say(self, memory: &mut [u64], kind: Kind, step: u64, value: Value) -> Vote
-        requires long { memory_size (lim self) ≤ length memory.old }
-        requires vote { vote_in_range (lim self) (own_vote self (kind_number kind) step (value_of value)) ≡ true }
-        ensures is { (m : OfMember) → Stands self memory.old m →
-            slot_taken (own m (kind_number kind) step (value_of value)) m.votes ≡ false →
-            Stands self memory.new (with_vote (own m (kind_number kind) step (value_of value)) m) }
-        ensures said { (m : OfMember) → Stands self memory.old m →
-            vote_of result ≡ own m (kind_number kind) step (value_of value) }
-        ensures only { OnlyIn of_votes (lim self) memory.old memory.new }
-        ensures ranged { vote_in_range (lim self) (vote_of result) ≡ true }
-    {
-        let limits = self.limits;
-        let vote = self.own(kind, step, value);
-        hear_vote(memory, ValidVote { limits, vote });
-        vote
-    }
-
     // How it goes on: with the chosen value; or with none, if it is free; or with its starting value.
     fn goes_on(self, chosen: Option<Value>) -> (Kind, Value)
         ensures is { (mem : List ℕ) (m : OfMember) (s : ℕ) → Stands self mem m →
