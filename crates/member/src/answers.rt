@@ -1,5 +1,5 @@
 // What a member answers to an event that can be read: refused by the first check that fails, or done and said.
-// Kept so: a member is by value beside lent memory, by a rule of the project, so each function asks that it is long.
+// Kept so: a member is by value beside lent memory, by a rule of the project: hence `long`.
 // Kept so: the refusal of each check is returned by `let .. else`, in the list's order, by a rule of the project.
 ghost use Rattle.std.specs.Prelude.{◌≡◌, ◌≤◌, true, length};
 ghost use Rattle.protocol.specs.Member.{vote_in_range, in_range, says, got_vote, got_proposal, got_block, timeout};

@@ -21,6 +21,7 @@ impl fmt::Display for OpenError {
 
     fn fmt<W: fmt::Write>(&self, f: &mut fmt::Formatter<W>) -> fmt::Result {
         match *self {
+            // Kept so: text's `NetworkError` has this arm too; a type for the one arm of each would be longer.
             OpenError::OutOfRange(limit) => {
                 let most = limit.most();
                 write!(f, "{limit} is not 1 to {most}")

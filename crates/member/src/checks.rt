@@ -1,5 +1,5 @@
 // The checks, in the order of the refusals: each hands its value on, or none.
-// Kept so: that each check hands its value on, and takes a member beside lent memory, is a rule of the project.
+// Kept so: each check hands its value on, and a member is by value beside lent memory, by rules of the project.
 ghost use Rattle.std.specs.Prelude.{◌≡◌, ℕ, ◌≤◌, true, false, ◌||◌, List, [], length, IfSome, MatchOption, ◌==◌, ◌≢◌};
 ghost use Rattle.protocol.specs.Vote.{slot_taken};
 ghost use Rattle.protocol.specs.Member.{vote_in_range, in_range, is_some};
@@ -22,8 +22,7 @@ fn event_in_range(limits: Limits, event: Event) -> bool
     match event {
         Event::Vote(vote) => ValidVote::new(limits, vote).is_some(),
         Event::Proposal(proposal) => ValidProposal::new(limits, proposal).is_some(),
-        Event::Block(_) => true,
-        Event::Timeout => true,
+        Event::Block(_) | Event::Timeout => true,
     }
 }
 
@@ -61,6 +60,7 @@ pub(crate) fn unheard(member: Member, memory: &[u64], vote: Vote) -> Option<Vote
 }
 
 // 5: a member that has steps and periods left.
+// Kept so: `then_some` would make a `WithTime` before the test has said that it has time.
 pub(crate) fn with_time(member: Member) -> Option<WithTime>
     ensures is { MatchOption result
         ((member.step ≤ member.limits.steps) × (member.period ≤ member.limits.periods) → ⊥)

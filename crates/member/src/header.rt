@@ -1,5 +1,5 @@
 // A member's header in memory: taken from it by value, and written back.
-// Kept so: memory is lent as a slice beside the member by value, by a rule of the project.
+// Kept so: a member is by value beside lent memory, by a rule of the project: hence `within` and `long`.
 ghost use Rattle.std.specs.Prelude.{◌≡◌, ◌+◌, ◌≤◌, length, MatchOption, slice_index};
 ghost use Rattle.protocol.specs.Programs.{memory_size};
 ghost use Rattle.protocol.specs.Promises.{all};
@@ -40,15 +40,12 @@ const START: usize = 11;
 
 const AGREED: usize = 16;
 
+// Kept so: `free`, `certain` and what stands before a value are flags: lent memory is laid out so.
 fn option_at(memory: &[u64], at: usize) -> Option<Value>
     requires within { at + 5 ≤ length memory.now }
     ensures is { listed result ≡ option_at memory.now at }
 {
-    if memory[at] == 0 {
-        None
-    } else {
-        Some(value_at(memory, at + 1))
-    }
+    (memory[at] != 0).then_some(value_at(memory, at + 1))
 }
 
 fn put_option(memory: &mut [u64], at: usize, option: Option<Value>)

@@ -1,5 +1,5 @@
 // Looking at the member that memory holds.
-// Kept so: a member is by value beside lent memory, by a rule of the project.
+// Kept so: a member is by value beside lent memory, by a rule of the project: hence `long`.
 ghost use Rattle.std.specs.Prelude.{◌≡◌, ◌≤◌, length, IfSome, IfOk, MatchOption, MatchResult};
 ghost use Rattle.protocol.specs.Programs.{memory_size};
 ghost use Rattle.wire.specs.Meaning.{vote_of};
@@ -34,13 +34,7 @@ fn has_said(member: Member, memory: &[u64], vote: Vote) -> bool
     requires long { memory_size (lim member) ≤ length memory.now }
     ensures is { (m : OfMember) → Stands member memory.now m → result ≡ SaidIt (vote_of vote) m }
 {
-    if vote.from != member.me {
-        return false;
-    }
-    let Some(valid) = ValidVote::new(member.limits, vote) else {
-        return false;
-    };
-    is_heard(memory, valid)
+    vote.from == member.me && ValidVote::new(member.limits, vote).is_some_and(|valid| is_heard(memory, valid))
 }
 
 // Did the member in this memory say this vote?

@@ -1,5 +1,5 @@
 // Opening a member in lent memory, and calling it.
-// Kept so: memory is lent as a slice beside limits or a member by value, by a rule of the project.
+// Kept so: limits and a member are by value beside lent memory, by a rule of the project: hence `long`.
 ghost use Rattle.std.specs.Prelude.{◌≡◌, ◌<◌, ◌≤◌, length, IfOk};
 ghost use Rattle.protocol.specs.Member.{new_member};
 ghost use Rattle.protocol.specs.Programs.{memory_size};
