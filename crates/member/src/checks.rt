@@ -1,5 +1,5 @@
 // The checks, in the order of the refusals: each hands its value on, or none.
-// Kept so: each check hands its value on, and a member is by value beside lent memory, by rules of the project.
+// Kept so: each check hands its value on, a member is by value beside memory, by rules of the project: hence `long`.
 ghost use Rattle.std.specs.Prelude.{◌≡◌, ℕ, ◌≤◌, true, false, ◌||◌, List, [], length, IfSome, MatchOption, ◌==◌, ◌≢◌};
 ghost use Rattle.protocol.specs.Vote.{slot_taken};
 ghost use Rattle.protocol.specs.Member.{vote_in_range, in_range, is_some};

@@ -34,7 +34,8 @@ fn has_said(member: Member, memory: &[u64], vote: Vote) -> bool
     requires long { memory_size (lim member) ≤ length memory.now }
     ensures is { (m : OfMember) → Stands member memory.now m → result ≡ SaidIt (vote_of vote) m }
 {
-    vote.from == member.me && ValidVote::new(member.limits, vote).is_some_and(|valid| is_heard(memory, valid))
+    vote.from == member.me
+        && ValidVote::new(member.limits, vote).is_some_and(|valid| is_heard(memory, valid))
 }
 
 // Did the member in this memory say this vote?

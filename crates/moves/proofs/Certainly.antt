@@ -1,18 +1,16 @@
 -- Being certain, and votes of one's own.
-use Rattle.std.proofs.Common.{◌≡◌, ℕ, ◌<◌, ◌≤◌, Bool, true, false, cond, not, ◌&&◌, eqb, List, [], ◌∷◌, sym, refl, ap}
-use Rattle.std.proofs.Common.{◌∙◌, subst, arith}
+use Rattle.std.proofs.Common.{◌≡◌, ℕ, ◌<◌, ◌≤◌, Bool, true, false, cond, not, ◌&&◌, eqb, List, [], ◌∷◌, refl, ap}
+use Rattle.std.proofs.Common.{◌∙◌, arith}
 use Rattle.std.proofs.lemmas.Bool.{and_from, eq-eqb, not_from_false, cond-true}
-use Rattle.protocol.specs.Vote.{cert, next, Vote, Limits}
-use Rattle.protocol.specs.Member.{Member, Outcome, own, silent, with_vote, now_certain, chosen, vote_in_range, say_cert}
+use Rattle.protocol.specs.Vote.{cert, next, Limits}
+use Rattle.protocol.specs.Member.{Member, Outcome, own, silent, with_vote, now_certain, chosen, say_cert}
 use Rattle.protocol.specs.Member.{certainly}
-use Rattle.protocol.proofs.Ranges.{Ranged, range_test}
+use Rattle.protocol.proofs.Ranges.{Ranged}
 use Rattle.values.specs.declared.value.Value.{Value}
 use Rattle.values.specs.Values.{value_of}
 use Rattle.values.proofs.Limbs.{value_below}
 use Rattle.moves.specs.Moves.{own_vote}
 use Rattle.moves.specs.Stands.{lim}
-use Rattle.wire.specs.declared.votes.Vote as code-vote
-use Rattle.wire.specs.Meaning.{vote_of}
 use Rattle.moves.specs.declared.state.Member as code
 
 module _ (l : Limits) (m : Member) where
