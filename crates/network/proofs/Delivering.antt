@@ -86,6 +86,21 @@ module _ (l : Limits) (faulty : ℕ → Bool) (i start end : ℕ) (is-start : st
       subst (λ (a : ℕ). OnlyPart a (a + memory_size l) mem new) is-start
       (subst (λ (b : ℕ). OnlyPart start b mem new) is-end h)
 
+  -- the same of memory by other names, before and after
+  pub called-then : (was mem new now : List ℕ) (e : Event) (r : Result Answer NotOpen) → was ≡ mem → new ≡ now →
+      ByCall (between start end was) e (between start end new) r →
+      ByCall (memory_of l faulty i mem) e (memory_of l faulty i now) r
+  called-then was mem new now e r before after h =
+      called-there mem now e r
+      (subst (λ (xs : List ℕ). ByCall (between start end xs) e (between start end now) r) before
+      (subst (λ (xs : List ℕ). ByCall (between start end was) e (between start end xs) r) after h))
+
+  pub only-then : (was mem new now : List ℕ) → was ≡ mem → new ≡ now → OnlyPart start end was new →
+      OnlyPart (start_of l faulty i) (start_of l faulty i + memory_size l) mem now
+  only-then was mem new now before after h =
+      only-there mem now
+      (subst (λ (xs : List ℕ). OnlyPart start end xs now) before (subst (OnlyPart start end was) after h))
+
 -- the event came to member i, and its memory was changed as the call says
 module _ (k : code.Limits) (faulty : ℕ → Bool) (mem new : List ℕ) (few : FewFaulty (limits_of all k) faulty)
     (run : ∥ Running (limits_of all k) faulty mem ∥₁) (i : ℕ) (low : i < k.members) (good : faulty i ≡ false)

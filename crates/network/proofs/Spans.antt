@@ -1,4 +1,4 @@
--- A change of one part of what a `Vec` holds.
+-- A change of one part of the memory.
 use Rattle.std.proofs.Common.{◌≡◌, ℕ, ◌+◌, ◌-◌, ◌≤◌, ◌⊎◌, List, ◌++◌, length, take, drop, sym, ap, ◌∙◌, ⊎_elim, arith}
 use Rattle.std.proofs.Common.{length-append, length-drop, length-take}
 use borrow.Rule.Slice.PartMut.{put_mid}
@@ -7,29 +7,24 @@ use Rattle.std.proofs.lemmas.List.{take_at, take-take, drop-drop}
 use Rattle.std.proofs.lemmas.Slice.{between_is, take-put_mid_below, drop-put_mid, between-put_mid}
 use Rattle.network.specs.Parts.{OnlyPart}
 
--- `xs` is what it held, and the part from `start` to `end` is now `ys`
-module _ (start end n : ℕ) (was xs ys rest : List ℕ) (order : start ≤ end) (within : end ≤ n) (same : xs ≡ was)
-    (all : length xs ≡ n) (long : length ys ≡ end - start) where
+-- the part from `start` to `end` of `xs` is now `ys`
+module _ (start end : ℕ) (xs ys : List ℕ) (order : start ≤ end) (within : end ≤ length xs)
+    (long : length ys ≡ end - start) where
   abbrev put : List ℕ
   put = put_mid start (end - start) xs ys
 
-  as_long : length put ≡ n
-  as_long = simp (length-append, length-take, length-drop) (omega arith)
+  pub part-is : between start end put ≡ ys
+  part-is = between-put_mid start (end - start) xs ys end (omega arith) long
 
-  -- what it holds then
-  pub refilled : take n (put ++ rest) ≡ put
-  refilled = take_at put rest n as_long
-
-  pub part-is : between start end (take n (put ++ rest)) ≡ ys
-  part-is = ap (between start end) refilled ∙ between-put_mid start (end - start) xs ys end (omega arith) long
-
-  pub part-only : OnlyPart start end was (take n (put ++ rest))
+  pub part-only : OnlyPart start end xs put
   part-only = record {
-    front = ap (take start) refilled ∙ take-put_mid_below start (end - start) xs ys start (omega arith) (omega arith)
-        ∙ ap (take start) same;
-    rest = ap (drop end) refilled ∙ drop-put_mid start (end - start) xs ys end (omega arith) (omega arith) long
-        ∙ ap (drop end) same;
+    front = take-put_mid_below start (end - start) xs ys start (omega arith) (omega arith);
+    rest = drop-put_mid start (end - start) xs ys end (omega arith) (omega arith) long;
   }
+
+-- what a slice of all of it left, as the `Vec` has it then
+pub written-back : (n : ℕ) (new rest : List ℕ) → length new ≡ n → new ≡ take n (new ++ rest)
+written-back n new rest long = sym (take_at new rest n long)
 
 -- WHAT LIES OUTSIDE THE PART
 

@@ -1,5 +1,5 @@
 // A network begins: each honest member is opened in its part of the memory.
-ghost use Rattle.std.specs.Prelude.{◌≡◌, ◌≤◌, vec_len};
+ghost use Rattle.std.specs.Prelude.{◌≤◌, length, vec_len};
 ghost use Rattle.limits.specs.Limits.{limits_of};
 ghost use Rattle.protocol.specs.Promises.{all};
 ghost use Rattle.network.specs.Begins.{AllNew, ByBegin};
@@ -14,10 +14,9 @@ use limits::Limits;
 
 // Opens each honest member, one after the other.
 // Kept so: of what a loop over `chunks_exact_mut` wrote, only the length is known after it.
-fn open_all(memory: &mut Vec<u64>, limits: Limits, faulty: Members)
-    requires room { room_for (limits_of all limits) (has faulty.bits) ≤ vec_len memory.old }
-    ensures is { AllNew (limits_of all limits) (has faulty.bits) memory.new.items }
-    ensures len { vec_len memory.new ≡ vec_len memory.old }
+fn open_all(memory: &mut [u64], limits: Limits, faulty: Members)
+    requires room { room_for (limits_of all limits) (has faulty.bits) ≤ length memory.old }
+    ensures is { AllNew (limits_of all limits) (has faulty.bits) memory.new }
 {
     let size = limits.memory() as usize;
     let mut start: usize = 0;
@@ -33,7 +32,7 @@ fn open_all(memory: &mut Vec<u64>, limits: Limits, faulty: Members)
 impl Network {
     // A network of new members in the memory lent; or why not: a third or more are faulty, or the memory is too short
     // for all honest members together. If it is refused, the memory is dropped.
-    pub fn new(memory: Vec<u64>, limits: Limits, faulty: Members) -> Result<Network, BeginError>
+    pub fn new(mut memory: Vec<u64>, limits: Limits, faulty: Members) -> Result<Network, BeginError>
         ensures is { ByBegin (vec_len memory) limits faulty result }
     {
         let honest = faulty.others_below(limits.members);
@@ -44,8 +43,7 @@ impl Network {
         if (memory.len() as u64) < needed {
             return Err(BeginError::TooShort(needed));
         }
-        let mut memory = memory;
-        open_all(&mut memory, limits, faulty);
+        open_all(memory.as_mut_slice(), limits, faulty);
         Ok(Network {
             limits,
             faulty,

@@ -50,6 +50,6 @@ impl Network {
             return Err(DeliverError::NotSaid);
         }
         let span = self.span(to);
-        Ok(take_in(&mut self.memory, span, event).unwrap())
+        Ok(take_in(self.memory.as_mut_slice(), span, event).unwrap())
     }
 }

@@ -5,7 +5,7 @@ ghost use Rattle.network.specs.Errors.{begin_error_text, deliver_error_text};
 use std::error::Error;
 use std::fmt;
 
-#[derive(Clone, Copy, PartialEq, Debug, Drop)]
+#[derive(Clone, Copy, PartialEq, Eq, Debug)]
 pub enum BeginError {
     // a third or more are faulty
     TooManyFaulty,
@@ -29,7 +29,7 @@ impl fmt::Display for BeginError {
 
 impl Error for BeginError {}
 
-#[derive(Clone, Copy, PartialEq, Debug, Drop)]
+#[derive(Clone, Copy, PartialEq, Eq, Debug)]
 pub enum DeliverError {
     NotMember,
     // faulty members do as they like: nothing is delivered to them

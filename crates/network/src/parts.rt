@@ -1,5 +1,5 @@
 // The memory of one member, within that of all.
-ghost use Rattle.std.specs.Prelude.{◌≡◌, ◌+◌, ◌<◌, ◌≤◌, vec_len};
+ghost use Rattle.std.specs.Prelude.{◌≡◌, ◌+◌, ◌<◌, ◌≤◌, length};
 ghost use Rattle.std.specs.List.{between};
 ghost use Rattle.limits.specs.Limits.{limits_of};
 ghost use Rattle.protocol.specs.Programs.{memory_size};
@@ -14,34 +14,26 @@ use std::ops::Range;
 use wire::{Answer, Event};
 
 // Hands an event to the member in this part.
-pub(crate) fn take_in(
-    memory: &mut Vec<u64>,
-    span: Range<usize>,
-    event: Event,
-) -> Result<Answer, NotOpen>
+pub(crate) fn take_in(memory: &mut [u64], span: Range<usize>, event: Event) -> Result<Answer, NotOpen>
     requires order { span.start ≤ span.end }
-    requires within { span.end ≤ vec_len memory.old }
-    ensures is { ByCall (between span.start span.end memory.old.items) (event_of event)
-        (between span.start span.end memory.new.items) result }
-    ensures only { OnlyPart span.start span.end memory.old.items memory.new.items }
-    ensures len { vec_len memory.new ≡ vec_len memory.old }
+    requires within { span.end ≤ length memory.old }
+    ensures is { ByCall (between span.start span.end memory.old) (event_of event)
+        (between span.start span.end memory.new) result }
+    ensures only { OnlyPart span.start span.end memory.old memory.new }
 {
-    let all = memory.as_mut_slice();
-    member::take(&mut all[span], event)
+    member::take(&mut memory[span], event)
 }
 
 // Opens a member in this part, which is as long as its limits ask for.
-pub(crate) fn open_in(memory: &mut Vec<u64>, span: Range<usize>, limits: Limits, me: u64)
+pub(crate) fn open_in(memory: &mut [u64], span: Range<usize>, limits: Limits, me: u64)
     requires size { span.end ≡ span.start + memory_size (limits_of all limits) }
-    requires within { span.end ≤ vec_len memory.old }
+    requires within { span.end ≤ length memory.old }
     requires me { me < limits.members }
-    ensures is { Opened (limits_of all limits) me (between span.start span.end memory.new.items) }
-    ensures only { OnlyPart span.start span.end memory.old.items memory.new.items }
-    ensures len { vec_len memory.new ≡ vec_len memory.old }
+    ensures is { Opened (limits_of all limits) me (between span.start span.end memory.new) }
+    ensures only { OnlyPart span.start span.end memory.old memory.new }
 {
-    let all = memory.as_mut_slice();
     member::open(
-        &mut all[span],
+        &mut memory[span],
         limits.members,
         limits.periods,
         limits.steps,

@@ -18,7 +18,7 @@ pub fn first_line(text: &[u8]) -> Option<(&[u8], &[u8])>
 }
 
 // Why a line names no faulty member.
-#[derive(Clone, Copy, Drop)]
+#[derive(Clone, Copy, PartialEq, Eq, Debug)]
 pub enum FaultyError {
     // its first word is not `faulty`
     NotFaulty,
@@ -30,13 +30,7 @@ pub enum FaultyError {
 pub fn read_faulty(line: &[u8]) -> Result<u64, FaultyError>
     ensures is { ReadsFaulty line.now result }
 {
-    let Some((name, member)) = cut(line, b' ') else {
-        return if is_word(line, b"faulty") {
-            Err(FaultyError::NotNumber)
-        } else {
-            Err(FaultyError::NotFaulty)
-        };
-    };
+    let (name, member) = cut(line, b' ').unwrap_or((line, b""));
     if !is_word(name, b"faulty") {
         return Err(FaultyError::NotFaulty);
     }

@@ -1,4 +1,4 @@
-use Rattle.std.proofs.Common.{ℕ, ◌+◌, Bool, List, vec_items, vec_len, sym, refl, ap, ◌∙◌, zero-mul, arith}
+use Rattle.std.proofs.Common.{ℕ, ◌+◌, Bool, List, length, sym, refl, ap, ◌∙◌, zero-mul, arith}
 use Rattle.protocol.specs.Vote.{Limits}
 use Rattle.protocol.specs.Network.{how_many}
 use Rattle.protocol.specs.Programs.{memory_size}
@@ -21,9 +21,8 @@ pub overflow_add-end : goal.overflow_add-end
 overflow_add-end c =
     omega (
       arith,
-      c.loop-member.memory.small,
       room_left (limits_of all c.args.limits) (has c.args.faulty.bits) c.loop-member.member
-          (vec_len c.loop-member.memory) (vec_len c.args.memory.now) _ _ c.loop-member.invariant.0
+          (length c.loop-member.memory) (length c.args.memory.now) _ _ c.loop-member.invariant.0
           c.memory-size.ensures.is
           (sym c.has.ensures.is ∙ c.if-not-has.true) c.loop-member-test.true c.requires.room
           c.loop-member.invariant.1.1,
@@ -32,7 +31,7 @@ overflow_add-end c =
 pub open_in-requires-clause-within : goal.open_in-requires-clause-within
 open_in-requires-clause-within c =
     room_left (limits_of all c.args.limits) (has c.args.faulty.bits) c.loop-member.member
-    (vec_len c.loop-member.memory) (vec_len c.args.memory.now) _ _ c.loop-member.invariant.0
+    (length c.loop-member.memory) (length c.args.memory.now) _ _ c.loop-member.invariant.0
     c.memory-size.ensures.is
     (sym c.has.ensures.is ∙ c.if-not-has.true) c.loop-member-test.true c.requires.room
     c.loop-member.invariant.1.1
@@ -42,7 +41,7 @@ loop-member-preserved c =
     let l : Limits = limits_of all c.args.limits in
     let faulty : ℕ → Bool = has c.args.faulty.bits in
     let n : ℕ = c.loop-member.member in
-    let mem : List ℕ = vec_items c.loop-member.memory in
+    let mem : List ℕ = c.loop-member.memory in
     elim c.if-not-has.branch [
       | then-not-has w ↦
           let good = sym c.has.ensures.is ∙ w.if-not-has.true in (
@@ -50,10 +49,10 @@ loop-member-preserved c =
                 ∙ ap (λ (k : ℕ). k + memory_size l) c.loop-member.invariant.0 ∙ start_more l faulty n good,
             (
               rw w.memory-is (new_more l faulty n mem c.loop-member.invariant.1.0
-                  (vec_items w.open_in.new.memory) _ _ good c.loop-member.invariant.0
+                  w.open_in.new.memory _ _ good c.loop-member.invariant.0
                   (ap (λ (k : ℕ). c.loop-member.start + k) c.memory-size.ensures.is) w.open_in.ensures.is
                   w.open_in.ensures.only),
-              rw w.memory-is (w.open_in.ensures.len ∙ c.loop-member.invariant.1.1),
+              rw w.memory-is (omega (arith, c.loop-member.invariant.1.1)),
             ),
           )
       | else-not-has w ↦

@@ -1,4 +1,4 @@
-use Rattle.std.proofs.Common.{◌≡◌, ℕ, ◌<◌, false, vec_items, vec_len}
+use Rattle.std.proofs.Common.{◌≡◌, ℕ, ◌<◌, false, length}
 use Rattle.protocol.specs.Promises.{all}
 use Rattle.limits.specs.Limits.{limits_of}
 use Rattle.member.specs.Calls.{Opened}
@@ -12,5 +12,5 @@ invariant-loop-member l =
     (l.start ≡ start_of (limits_of all l.limits) (has l.faulty.bits) l.member)
     × (((i : ℕ) → i < l.member → has l.faulty.bits i ≡ false →
     Opened (limits_of all l.limits) i
-    (memory_of (limits_of all l.limits) (has l.faulty.bits) i (vec_items l.memory)))
-    × (vec_len l.memory ≡ vec_len l.initial.memory))
+    (memory_of (limits_of all l.limits) (has l.faulty.bits) i l.memory))
+    × (length l.memory ≡ length l.initial.memory))

@@ -1,10 +1,12 @@
-use Rattle.std.proofs.Common.{ℕ, Bool, vec_items, arith}
+use Rattle.std.proofs.Common.{ℕ, Bool, List, ◌++◌, length, take, drop, vec_items, vec_len, subst, arith}
 use Rattle.protocol.specs.Promises.{all}
 use Rattle.protocol.specs.Vote.{Limits}
 use Rattle.limits.specs.Limits.{limits_of}
 use Rattle.network.specs.Members.{has}
 use Rattle.network.proofs.Apart.{others, room_is}
 use Rattle.network.proofs.Running.{begins}
+use Rattle.network.proofs.Spans.{written-back}
+use Rattle.network.specs.Begins.{AllNew}
 use Rattle.network.proofs.state.Network.new.Goals as goal
 
 pub returns-then-limits-honest : goal.returns-then-limits-honest
@@ -42,8 +44,12 @@ invariant_of-result c =
     let faulty : ℕ → Bool = has c.args.faulty.bits in
     let room = room_is l faulty _ _ c.others_below-honest.ensures.is c.memory.ensures.is in
     let honest = c.others_below-honest.ensures.is in
+    let n : ℕ = vec_len c.args.memory in
+    let new : List ℕ = c.open_all.new.memory in
+    let rest : List ℕ = drop (length new) (vec_items c.args.memory) in
     record {
       few = omega (arith, c.if-limits-honest.false, honest, others faulty c.args.limits.members);
-      room = omega (arith, room, c.if-len-needed.false, c.len.ensures, c.open_all.ensures.len);
-      runs = ∣ begins l faulty (vec_items c.open_all.new.memory) c.open_all.ensures.is ∣₁;
+      room = omega (arith, room, c.if-len-needed.false, c.len.ensures);
+      runs = ∣ begins l faulty (take n (new ++ rest))
+          (subst (AllNew l faulty) (written-back n new rest (omega arith)) c.open_all.ensures.is) ∣₁;
     }
