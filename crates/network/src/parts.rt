@@ -14,7 +14,11 @@ use std::ops::Range;
 use wire::{Answer, Event};
 
 // Hands an event to the member in this part.
-pub(crate) fn take_in(memory: &mut [u64], span: Range<usize>, event: Event) -> Result<Answer, NotOpen>
+pub(crate) fn take_in(
+    memory: &mut [u64],
+    span: Range<usize>,
+    event: Event,
+) -> Result<Answer, NotOpen>
     requires order { span.start ≤ span.end }
     requires within { span.end ≤ length memory.old }
     ensures is { ByCall (between span.start span.end memory.old) (event_of event)

@@ -31,42 +31,45 @@ fn answer(rt: &HostRuntime, memory: &mut Vec<u64>, line: &[u8], at: u64) -> anyh
     // Kept so: from a line to an event, to its bytes, to `call`, which is what everything is proved of.
     let mut bytes = [0; 65];
     let length = write_event(&mut bytes, event).unwrap();
-    let answer = call(memory.as_mut_slice(), &bytes[..length]).map_err(|_| anyhow!(
-        "the memory holds no member"
-    ))?;
+    let answer = call(memory.as_mut_slice(), &bytes[..length])?;
     print!(rt; "{}", AnswerLines(answer))?;
     Ok(())
 }
 
-// The next line without its line feed, or as much of it as shows that it is too long; false where the input has ended. A
-// last line without its line feed is a line too.
+// Reads the next line, without its line feed, or as much of it as shows that it is too long. Says whether more may
+// follow: not where the input ended the line.
 fn read_one<R: BufRead>(input: &mut R, line: &mut Vec<u8>) -> io::Result<bool> {
     line.clear();
-    let count = input
+    input
         .by_ref()
         .take(LONGEST as u64 + 1)
         .read_until(b'\n', line)?;
     if line.last() == Some(&b'\n') {
         line.pop();
-    } else if line.len() > LONGEST {
-        input.skip_until(b'\n')?;
+        return Ok(true);
     }
-    Ok(count > 0)
+    if line.len() > LONGEST {
+        // whether the input ended it, only the next read shows
+        input.skip_until(b'\n')?;
+        return Ok(true);
+    }
+    Ok(false)
 }
 
-// Answers each line of the input at once, up to its end.
+// Answers each line of the input at once, up to its end. A last line without its line feed is a line too.
 fn play(rt: &HostRuntime, memory: &mut Vec<u64>) -> anyhow::Result<()> {
     let mut input = BufReader::new(rt.alloc(), rt.stdin())?;
     let mut line = Vec::new(rt.alloc());
     // Kept so: a count stands for `while`, since nothing says that the input ends.
     for at in 0..u64::MAX {
-        if !read_one(&mut input, &mut line)? {
-            break;
-        }
+        let more = read_one(&mut input, &mut line)?;
         if line.len() > LONGEST {
             refuse(rt, at)?;
-        } else {
+        } else if more || !line.is_empty() {
             answer(rt, memory, line.as_slice(), at)?;
+        }
+        if !more {
+            break;
         }
     }
     Ok(())
@@ -119,6 +122,7 @@ fn run(rt: &HostRuntime) -> anyhow::Result<()> {
 }
 
 // A refusal to start is one line on standard error, and status 1.
+// Kept so: three programs, each on its own; a crate for a `main` of eight lines would be more.
 fn main(rt: HostRuntime) -> ExitCode {
     match run(&rt) {
         Ok(()) => ExitCode::SUCCESS,

@@ -33,7 +33,7 @@ pub(crate) struct Header {
 }
 
 // Why a file has no header.
-#[derive(Clone, Copy, Debug)]
+#[derive(Clone, Copy, PartialEq, Eq, Debug)]
 pub(crate) enum HeaderError {
     Empty,
     NoLimits(NetworkError),

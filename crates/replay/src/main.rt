@@ -76,6 +76,7 @@ fn run(rt: &HostRuntime) -> Result<(), ReplayError> {
 }
 
 // A refusal is one line on standard error, and status 1.
+// Kept so: three programs, each on its own; a crate for a `main` of eight lines would be more.
 fn main(rt: HostRuntime) -> ExitCode {
     match run(&rt) {
         Ok(()) => ExitCode::SUCCESS,

@@ -25,7 +25,7 @@ fn begin(rt: &HostRuntime, header: Header, lent: u64) -> anyhow::Result<Network>
 
 // A line that delivers nothing is refused by 1, and its place is the line's number.
 fn play_line(rt: &HostRuntime, network: &mut Network, line: &[u8], at: u64) -> anyhow::Result<()> {
-    // Kept so: the pair gets a name before it is taken apart, as the borrow checker doesn't reach into an event in `Some`.
+    // Kept so: the pair is named before it is taken apart: the borrow checker does not reach into an event in `Some`.
     let Some(delivery) = read_delivery(line) else {
         println!(rt; "{}", AnswerLine(Answer::Refused(Refusal::NoEvent, at)))?;
         return Ok(());
