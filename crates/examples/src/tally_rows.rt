@@ -1,10 +1,8 @@
 // Rows of members with just a quorum and with one vote less, and every slot of the largest limits.
-ghost use Rattle.std.specs.Prelude.{◌≡◌, ◌<◌, ◌≤◌, true, length};
+ghost use Rattle.std.specs.Prelude.{◌≡◌, ◌<◌, ◌≤◌, length};
 ghost use Rattle.limits.specs.Limits.{limits_of};
 ghost use Rattle.protocol.specs.Promises.{all};
-ghost use Rattle.protocol.specs.Member.{vote_in_range};
 ghost use Rattle.tally.specs.Layout.{votes_size};
-ghost use Rattle.wire.specs.Meaning.{vote_of};
 
 use limits::Limits;
 use std::process::Abort;
@@ -18,25 +16,18 @@ fn value(last: u64) -> Value {
     Value::from([5, 0, 0, last])
 }
 
-fn soft(limits: Limits, last: u64, from: u64) -> Vote
+fn soft(limits: Limits, last: u64, from: u64) -> ValidVote
     requires from { from < limits.members }
-    ensures good { vote_in_range (limits_of all limits) (vote_of result) ≡ true }
+    ensures limits { result.limits ≡ limits }
 {
-    Vote {
+    let vote = Vote {
         kind: Kind::Soft.into(),
         period: 1,
         step: 0,
         value: value(last),
         from,
-    }
-}
-
-// How many voted so.
-fn count(votes: &[u64], limits: Limits, vote: Vote) -> u64
-    requires votes { length votes.now ≡ votes_size (limits_of all limits) }
-    requires vote { vote_in_range (limits_of all limits) (vote_of vote) ≡ true }
-{
-    ValidVote { limits, vote }.count(votes)
+    };
+    ValidVote { limits, vote }
 }
 
 // Members from `first` on and below `last` vote for one value, the others for another.
@@ -46,11 +37,7 @@ fn vote_all(votes: &mut [u64], limits: Limits, first: u64, last: u64)
     clear(votes);
     for from in 0..limits.members {
         let number = if first <= from && from < last { 1 } else { 2 };
-        ValidVote {
-            limits,
-            vote: soft(limits, number, from),
-        }
-        .hear(votes);
+        soft(limits, number, from).hear(votes);
     }
 }
 
@@ -68,22 +55,14 @@ fn check_quorum(
 {
     vote_all(votes, limits, first, last);
     assert!(rt; first <= last && last <= limits.members);
-    assert_eq!(rt; count(votes, limits, soft(limits, 1, 0)), last - first);
-    assert_eq!(rt;
-        count(votes, limits, soft(limits, 2, 0)),
-        limits.members - (last - first)
-    );
-    let vote = ValidVote {
-        limits,
-        vote: soft(limits, 1, 0),
-    };
-    assert_eq!(rt; vote.has_quorum(votes), yes);
+    let one = soft(limits, 1, 0);
+    let other = soft(limits, 2, 0);
+    assert_eq!(rt; one.count(votes), last - first);
+    assert_eq!(rt; other.count(votes), limits.members - (last - first));
+    assert_eq!(rt; one.has_quorum(votes), yes);
     let blocks = [5, 0, 0, 1];
-    let Some(found) = HeardVotes { limits, votes }.chosen(1, &blocks, 1) else {
-        assert!(rt; !yes);
-        return Ok(());
-    };
-    assert!(rt; yes && found == value(1));
+    let chosen = HeardVotes { limits, votes }.chosen(1, &blocks, 1);
+    assert_eq!(rt; chosen, yes.then_some(value(1)));
     Ok(())
 }
 
@@ -121,13 +100,13 @@ fn rows(rt: HostRuntime) -> Result<(), Fail> {
 
 // The vote of member `from` in each of a period's slots: soft, cert, eight steps to go on with a value,
 // eight with none.
-fn at_place(limits: Limits, period: u64, place: u64, from: u64) -> Vote
+fn at_place(limits: Limits, period: u64, place: u64, from: u64) -> ValidVote
     requires some { 1 ≤ period }
     requires few { period ≤ limits.periods }
     requires steps { limits.steps ≡ 8 }
     requires place { place < 18 }
     requires from { from < limits.members }
-    ensures good { vote_in_range (limits_of all limits) (vote_of result) ≡ true }
+    ensures limits { result.limits ≡ limits }
 {
     let (kind, step) = match place {
         0 => (Kind::Soft, 0),
@@ -135,13 +114,14 @@ fn at_place(limits: Limits, period: u64, place: u64, from: u64) -> Vote
         2..=9 => (Kind::Next, place),
         _ => (Kind::NextNone, place - 8),
     };
-    Vote {
+    let vote = Vote {
         kind: kind.into(),
         period,
         step,
         value: Value::zero(),
         from,
-    }
+    };
+    ValidVote { limits, vote }
 }
 
 // Each slot of each member is free until it is heard in.
@@ -153,10 +133,7 @@ fn hear_all(rt: &impl Abort, votes: &mut [u64], limits: Limits)
     for period in 0..limits.periods {
         for place in 0..18 {
             for from in 0..limits.members {
-                let vote = ValidVote {
-                    limits,
-                    vote: at_place(limits, period + 1, place, from),
-                };
+                let vote = at_place(limits, period + 1, place, from);
                 assert!(rt; !vote.taken(votes));
                 vote.hear(votes);
             }

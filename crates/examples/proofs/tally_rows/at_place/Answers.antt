@@ -13,8 +13,8 @@ slot_at : (l : Limits) (p k s k' s' : ℕ) → k ≡ k' → s ≡ s' → slot_in
     slot_in_range l k p s ≡ true
 slot_at l p k s k' s' d e h = (λ i. slot_in_range l (d i) p (e i)) ∙ h
 
-pub returns : goal.returns
-returns c =
+pub invariant_of-result : goal.invariant_of-result
+invariant_of-result c =
     let l = limits_of all c.args.limits in
     let p = c.args.period in
     let x = c.zero.result in
@@ -43,4 +43,4 @@ returns c =
           (omega (arith, w.in_default)) (omega (arith, w.in_default, c.requires.steps, c.requires.place)))
     ] in
     let below = value_below x.limbs x.four x.fit in
-    record { good = vote-good l _ slot c.requires.from below (λ _. c.zero.ensures.is) }
+    record { in_range = vote-good l _ slot c.requires.from below (λ _. c.zero.ensures.is) }

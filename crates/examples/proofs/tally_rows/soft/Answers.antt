@@ -5,12 +5,12 @@ use Rattle.values.proofs.Limbs.{value_below}
 use Rattle.tally.proofs.Index.{alone_good, vote-good}
 use Rattle.examples.proofs.tally_rows.soft.Goals as goal
 
-pub returns : goal.returns
-returns c =
+pub invariant_of-result : goal.invariant_of-result
+invariant_of-result c =
     let l = limits_of all c.args.limits in
     let x = c.value.result in
     let kind : c.into.result ≡ 0 = c.into.ensures in
     record {
-      good = vote-good l _ (rw kind (alone_good l 0 1 (omega arith) (omega arith) c.args.limits.some_period))
+      in_range = vote-good l _ (rw kind (alone_good l 0 1 (omega arith) (omega arith) c.args.limits.some_period))
           c.requires.from (value_below x.limbs x.four x.fit) (λ e. omega (arith, e, kind));
     }
