@@ -69,12 +69,6 @@ impl HeardVotes<'_> {
             result
             ≡ certified_by (limits_of all self.entry.limits) (number_of value.limbs) self.entry.limits.periods vs }
     {
-        // Kept so: `any` over the periods was tried, and the proof that it is `certified_by` did not close.
-        for period in 1..=self.limits.periods {
-            if self.certified_in(period, value) {
-                return true;
-            }
-        }
-        false
+        (0..self.limits.periods).any(|before| self.certified_in(before + 1, value))
     }
 }
