@@ -33,18 +33,17 @@ impl HeardVotes<'_> {
         ensures is { (vs : Votes) → Holds (limits_of all self.entry.limits) self.entry.votes.now vs →
             listed result ≡ chosen_in (limits_of all self.entry.limits) period vs vs (blocks_in blocks.now count) }
     {
-        let HeardVotes { limits, votes } = self;
-        if !(1..=limits.periods).contains(&period) {
+        if !(1..=self.limits.periods).contains(&period) {
             return None;
         }
         let slot = Slot {
-            limits,
+            heard: self,
             kind: Kind::Soft,
             period,
             step: 0,
         };
-        let value = majority(slot.row(votes));
-        (slot.quorum_for(votes, value) && has_block(blocks, count, value)).then_some(value)
+        let value = majority(slot.row());
+        (slot.quorum_for(value) && has_block(blocks, count, value)).then_some(value)
     }
 
     // Is a quorum certain of this value in this period?
@@ -55,12 +54,12 @@ impl HeardVotes<'_> {
             result ≡ has_quorum (limits_of all self.entry.limits) cert period 0 (number_of value.limbs) vs }
     {
         let slot = Slot {
-            limits: self.limits,
+            heard: self,
             kind: Kind::Cert,
             period,
             step: 0,
         };
-        slot.quorum_for(self.votes, value)
+        slot.quorum_for(value)
     }
 
     // Is a quorum certain of this value in some period?

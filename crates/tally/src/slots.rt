@@ -9,84 +9,86 @@ ghost use Rattle.cells.specs.Cells.{listed, Only};
 ghost use Rattle.tally.specs.Layout.{slot_place, row_of, slot_in_range, votes_size};
 ghost use Rattle.tally.specs.Votes.{heard_at, voted, Votes, Holds};
 
+use super::decided::HeardVotes;
 use super::rows::{count_in, heard, quorum_in};
 use cells::put_value;
-use limits::Limits;
 use values::Value;
 use wire::Kind;
 
-// In range for the limits that it came with, by type: so nobody has to look again.
+// In range for the limits of the votes that it is of, by type: so nobody has to look again.
 #[derive(Clone, Copy)]
-pub(crate) struct Slot {
-    pub(crate) limits: Limits,
+pub(crate) struct Slot<'a> {
+    pub(crate) heard: HeardVotes<'a>,
     pub(crate) kind: Kind,
     pub(crate) period: u64,
     pub(crate) step: u64,
-    ghost in_range: { slot_in_range (limits_of all limits) (kind_number kind) period step ≡ true },
+    ghost in_range: { slot_in_range (limits_of all heard.limits) (kind_number kind) period step ≡ true },
 }
 
-impl Slot {
+impl<'a> Slot<'a> {
     // Which of its period's slots it is.
     fn place(self) -> u64
-        ensures is { result ≡ slot_place (limits_of all self.limits) (kind_number self.kind) self.step }
+        ensures is { result
+            ≡ slot_place (limits_of all self.entry.heard.limits) (kind_number self.entry.kind) self.entry.step }
     {
         match self.kind {
             Kind::Soft => 0,
             Kind::Cert => 1,
             Kind::Next => self.step,
-            Kind::NextNone => self.step + self.limits.steps,
+            Kind::NextNone => self.step + self.heard.limits.steps,
         }
     }
 
     // Its first entry.
     pub(crate) fn first(self) -> u64
-        ensures is { result ≡ row_of (limits_of all self.limits) (kind_number self.kind) self.period self.step }
-        ensures within { 8 * (result + self.limits.members) ≤ votes_size (limits_of all self.limits) }
+        ensures is { result ≡ row_of (limits_of all self.entry.heard.limits) (kind_number self.entry.kind)
+            self.entry.period self.entry.step }
+        ensures within { 8 * (result + self.entry.heard.limits.members)
+            ≤ votes_size (limits_of all self.entry.heard.limits) }
     {
-        let slots = 2 * self.limits.steps + 2;
-        ((self.period - 1) * slots + self.place()) * self.limits.members
+        let slots = 2 * self.heard.limits.steps + 2;
+        ((self.period - 1) * slots + self.place()) * self.heard.limits.members
     }
 
     // Its row: an entry for each member.
-    pub(crate) fn row(self, votes: &[u64]) -> &[[u64; 8]]
-        requires votes { length votes.now ≡ votes_size (limits_of all self.limits) }
-        ensures long { length result.now ≡ self.limits.members }
-        ensures entries { (i : ℕ) → i < self.limits.members → heard_at (slice_index_or result.now i []) 0
-            ≡ heard_at votes.now
-            (row_of (limits_of all self.limits) (kind_number self.kind) self.period self.step + i) }
+    pub(crate) fn row(self) -> &'a [[u64; 8]]
+        ensures long { length result.now ≡ self.entry.heard.limits.members }
+        ensures entries { (i : ℕ) → i < self.entry.heard.limits.members → heard_at (slice_index_or result.now i []) 0
+            ≡ heard_at self.entry.heard.votes.now
+            (row_of (limits_of all self.entry.heard.limits) (kind_number self.entry.kind) self.entry.period
+            self.entry.step + i) }
     {
+        let HeardVotes { limits, votes } = self.heard;
         let (entries, _) = votes.as_chunks::<8>();
         let first = self.first() as usize;
-        &entries[first..first + self.limits.members as usize]
+        &entries[first..first + limits.members as usize]
     }
 
     // What a member voted for in it.
-    pub(crate) fn heard_from(self, votes: &[u64], from: u64) -> Option<Value>
-        requires votes { length votes.now ≡ votes_size (limits_of all self.limits) }
-        requires from { from < self.limits.members }
-        ensures is { (vs : Votes) → Holds (limits_of all self.limits) votes.now vs →
-            listed result ≡ voted (kind_number self.kind) self.period self.step from vs }
+    pub(crate) fn heard_from(self, from: u64) -> Option<Value>
+        requires from { from < self.heard.limits.members }
+        ensures is { (vs : Votes) → Holds (limits_of all self.entry.heard.limits) self.entry.heard.votes.now vs →
+            listed result ≡ voted (kind_number self.entry.kind) self.entry.period self.entry.step from vs }
     {
-        heard(&self.row(votes)[from as usize])
+        heard(&self.row()[from as usize])
     }
 
     // How many members voted for this value in it.
-    pub(crate) fn count_for(self, votes: &[u64], value: Value) -> u64
-        requires votes { length votes.now ≡ votes_size (limits_of all self.limits) }
-        ensures is { (vs : Votes) → Holds (limits_of all self.limits) votes.now vs →
-            result ≡ count (kind_number self.kind) self.period self.step (number_of value.limbs) vs }
+    pub(crate) fn count_for(self, value: Value) -> u64
+        ensures is { (vs : Votes) → Holds (limits_of all self.entry.heard.limits) self.entry.heard.votes.now vs →
+            result
+            ≡ count (kind_number self.entry.kind) self.entry.period self.entry.step (number_of value.limbs) vs }
     {
-        count_in(self.row(votes), value)
+        count_in(self.row(), value)
     }
 
     // Is a quorum of it for this value?
-    pub(crate) fn quorum_for(self, votes: &[u64], value: Value) -> bool
-        requires votes { length votes.now ≡ votes_size (limits_of all self.limits) }
-        ensures is { (vs : Votes) → Holds (limits_of all self.limits) votes.now vs →
-            result ≡ has_quorum (limits_of all self.limits) (kind_number self.kind) self.period self.step
-            (number_of value.limbs) vs }
+    pub(crate) fn quorum_for(self, value: Value) -> bool
+        ensures is { (vs : Votes) → Holds (limits_of all self.entry.heard.limits) self.entry.heard.votes.now vs →
+            result ≡ has_quorum (limits_of all self.entry.heard.limits) (kind_number self.entry.kind)
+            self.entry.period self.entry.step (number_of value.limbs) vs }
     {
-        quorum_in(self.row(votes), self.limits, value)
+        quorum_in(self.row(), self.heard.limits, value)
     }
 }
 

@@ -11,6 +11,7 @@ ghost use Rattle.tally.specs.Layout.{row_of, votes_size};
 ghost use Rattle.tally.specs.Valid.{valid_vote, vote_limits};
 ghost use Rattle.tally.specs.Votes.{entry_of, voted, Votes, Holds};
 
+use super::decided::HeardVotes;
 use super::slots::{Slot, put_heard};
 use super::valid::ValidVote;
 use values::Value;
@@ -18,15 +19,17 @@ use wire::Kind;
 
 impl ValidVote {
     // Its slot.
-    fn slot(self) -> Slot
-        ensures limits { result.limits ≡ self.limits }
+    fn slot(self, votes: &[u64]) -> Slot<'_>
+        requires votes { length votes.now ≡ votes_size (vote_limits self) }
+        ensures limits { result.heard.limits ≡ self.limits }
+        ensures votes { result.heard.votes.now ≡ votes.now }
         ensures kind { kind_number result.kind ≡ self.vote.kind }
         ensures period { result.period ≡ self.vote.period }
         ensures step { result.step ≡ self.vote.step }
     {
         let ValidVote { limits, vote } = self;
         Slot {
-            limits,
+            heard: HeardVotes { limits, votes },
             kind: Kind::try_from(vote.kind).unwrap(),
             period: vote.period,
             step: vote.step,
@@ -34,11 +37,12 @@ impl ValidVote {
     }
 
     // Its entry: its member's in its slot.
-    fn entry(self) -> u64
+    fn entry(self, votes: &[u64]) -> u64
+        requires votes { length votes.now ≡ votes_size (vote_limits self) }
         ensures is { result ≡ entry_of (vote_limits self) (valid_vote self) }
         ensures within { 8 * result + 8 ≤ votes_size (vote_limits self) }
     {
-        self.slot().first() + self.vote.from
+        self.slot(votes).first() + self.vote.from
     }
 
     // What the vote's member voted for in its slot.
@@ -47,7 +51,7 @@ impl ValidVote {
         ensures is { (vs : Votes) → Holds (vote_limits self) votes.now vs →
             listed result ≡ voted self.vote.kind self.vote.period self.vote.step self.vote.from vs }
     {
-        self.slot().heard_from(votes, self.vote.from)
+        self.slot(votes).heard_from(self.vote.from)
     }
 
     // Has the vote's member a vote in its slot already?
@@ -77,7 +81,8 @@ impl ValidVote {
         ensures only { Only (8 * entry_of (vote_limits self) (valid_vote self))
             (8 * entry_of (vote_limits self) (valid_vote self) + 5) votes.old votes.new }
     {
-        put_heard(votes, self.entry(), self.vote.value);
+        let at = self.entry(votes);
+        put_heard(votes, at, self.vote.value);
     }
 
     // How many voted so: the votes of its kind, period, step and value, whoever they are from.
@@ -86,7 +91,7 @@ impl ValidVote {
         ensures is { (vs : Votes) → Holds (vote_limits self) votes.now vs →
             result ≡ count self.vote.kind self.vote.period self.vote.step (value_of self.vote.value) vs }
     {
-        self.slot().count_for(votes, self.vote.value)
+        self.slot(votes).count_for(self.vote.value)
     }
 
     // Did a quorum vote so?
@@ -96,6 +101,6 @@ impl ValidVote {
             result ≡ has_quorum (vote_limits self) self.vote.kind self.vote.period self.vote.step
             (value_of self.vote.value) vs }
     {
-        self.slot().quorum_for(votes, self.vote.value)
+        self.slot(votes).quorum_for(self.vote.value)
     }
 }

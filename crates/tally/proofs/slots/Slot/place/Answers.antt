@@ -7,4 +7,4 @@ use Rattle.tally.proofs.slots.Slot.place.Goals as goal
 pub overflow_add-result : goal.overflow_add-result
 overflow_add-result c =
     let s = c.args.self in
-    omega (arith, step_high (limits_of all s.limits) _ s.period s.step s.in_range, s.limits.few_steps)
+    omega (arith, step_high (limits_of all s.heard.limits) _ s.period s.step s.in_range, s.heard.limits.few_steps)

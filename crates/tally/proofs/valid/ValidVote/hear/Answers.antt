@@ -11,6 +11,6 @@ returns-clause-is c =
     let part = c.args.votes.now in
     let now = c.put_heard.new.votes in
     let is : heard_at now (entry_of l v) ≡ v.value ∷ [] =
-    subst (λ (e : ℕ). heard_at now e ≡ v.value ∷ []) c.entry.ensures.is c.put_heard.ensures.is in
+    subst (λ (e : ℕ). heard_at now e ≡ v.value ∷ []) c.entry-at.ensures.is c.put_heard.ensures.is in
     λ vs h free. holds_more l part now v vs h c.args.self.in_range free is
     (λ e other. same_heard part now e (entry_of l v) (search rules) other)

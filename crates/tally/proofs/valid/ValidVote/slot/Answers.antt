@@ -17,8 +17,8 @@ unwrap-requires c =
     (λ f e. no_kind _ f v.vote.kind (ranged (vote_limits v) (valid_vote v) v.in_range).kinds
     (sym c.try_from.ensures ∙ e))
 
-pub invariant_of-result : goal.invariant_of-result
-invariant_of-result c =
+pub invariant_of-result-2 : goal.invariant_of-result-2
+invariant_of-result-2 c =
     let v = c.args.self in
     let kind = is_kind _ v.vote.kind c.unwrap.result (sym c.try_from.ensures ∙ c.unwrap.ensures) in
     record {

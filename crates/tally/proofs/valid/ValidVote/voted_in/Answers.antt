@@ -3,7 +3,7 @@ use Rattle.protocol.proofs.Ranges.{ranged}
 use Rattle.tally.specs.Valid.{valid_vote, vote_limits}
 use Rattle.tally.proofs.valid.ValidVote.voted_in.Goals as goal
 
-pub heard_from-requires-clause-from : goal.heard_from-requires-clause-from
-heard_from-requires-clause-from c =
+pub heard_from-requires : goal.heard_from-requires
+heard_from-requires c =
     let v = c.args.self in
-    omega (arith, (ranged (vote_limits v) (valid_vote v) v.in_range).member, ap (λ l. l.members) c.slot.ensures.limits)
+    record { from = omega (arith, (ranged (vote_limits v) (valid_vote v) v.in_range).member, ap (λ l. l.members) c.slot.ensures.limits) }
