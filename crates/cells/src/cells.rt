@@ -10,7 +10,8 @@ pub fn value_at(part: &[u64], at: usize) -> Value
     requires within { at + 4 ≤ length part.now }
     ensures is { number_of result.limbs ≡ value_at part.now at }
 {
-    Value::from([part[at], part[at + 1], part[at + 2], part[at + 3]])
+    let limbs: [u64; 4] = part[at..at + 4].try_into().unwrap();
+    Value::from(limbs)
 }
 
 pub fn put_value(part: &mut [u64], at: usize, value: Value)
