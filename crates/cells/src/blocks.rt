@@ -1,5 +1,5 @@
 // The values whose blocks are here.
-// Kept so: how many there are stands in the member's header, apart from the blocks: lent memory is laid out so.
+// Kept so: adding needs the room behind the blocks that are here, so the part and their count come side by side.
 ghost use Rattle.std.specs.Prelude.{◌≡◌, ◌+◌, ◌*◌, ◌≤◌, true, length};
 ghost use Rattle.values.specs.Digits.{number_of};
 ghost use Rattle.protocol.specs.Member.{is_in};

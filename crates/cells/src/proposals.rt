@@ -21,6 +21,7 @@ impl ValidProposal {
             (λ o. (o.limits ≡ limits) × ((o.proposal ≡ proposal)
             × (in_range (limits_of all limits) (got_proposal (proposal_of proposal)) ≡ true))) }
     {
+        // Kept so: `then_some` would make it before the test has said that it is in range.
         if (1..=limits.periods).contains(&proposal.period) {
             Some(ValidProposal { limits, proposal })
         } else {

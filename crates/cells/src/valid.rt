@@ -5,6 +5,7 @@ use limits::Limits;
 use wire::Proposal;
 
 // Only its period can be out of range.
+// Kept so: which range holds differs by type, and so do the methods: one generic type would share two fields only.
 #[derive(Clone, Copy)]
 pub struct ValidProposal {
     pub limits: Limits,

@@ -1,5 +1,6 @@
 // Adding a block for which there is room.
-// Kept so: the blocks' count stands in the member's header, apart from the blocks: lent memory is laid out so.
+// Kept so: `cells::add_block` may give none; this one cannot fail, for a caller that knows that there is room.
+// Kept so: adding needs the room behind the blocks that are here, so the part and their count come side by side.
 ghost use Rattle.std.specs.Prelude.{◌≡◌, ◌+◌, ◌*◌, ◌≤◌, false, length};
 ghost use Rattle.values.specs.Digits.{number_of};
 ghost use Rattle.protocol.specs.Member.{is_in, add_block};

@@ -1,5 +1,4 @@
 // What a quorum is for: the chosen value of a period, and the certified value.
-// Kept so: the blocks' count stands in the member's header, apart from the blocks: lent memory is laid out so.
 ghost use Rattle.std.specs.Prelude.{◌≡◌, ◌*◌, ◌≤◌, length};
 ghost use Rattle.limits.specs.Limits.{limits_of};
 ghost use Rattle.protocol.specs.Promises.{all};
@@ -28,6 +27,7 @@ pub struct HeardVotes<'a> {
 
 impl HeardVotes<'_> {
     // The value that a quorum of soft votes of the period is for, if its block is among the first `count`.
+    // Kept so: adding needs the room behind the blocks that are here, so the part and their count come side by side.
     pub fn chosen(self, period: u64, blocks: &[u64], count: u64) -> Option<Value>
         requires blocks { 4 * count ≤ length blocks.now }
         ensures is { (vs : Votes) → Holds (limits_of all self.entry.limits) self.entry.votes.now vs →

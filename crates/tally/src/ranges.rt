@@ -38,6 +38,7 @@ impl ValidVote {
         ensures is { MatchOption result (vote_in_range (limits_of all limits) (vote_of vote) ≡ false)
             (λ v. (v.limits ≡ limits) × (v.vote ≡ vote)) }
     {
+        // Kept so: `then_some` would make it before the test has said that it is in range.
         if vote_in_range(limits, vote) {
             Some(ValidVote { limits, vote })
         } else {

@@ -8,6 +8,7 @@ ghost use Rattle.wire.specs.Meaning.{vote_of};
 use limits::Limits;
 use wire::Vote;
 
+// Kept so: which range holds differs by type, and so do the methods: one generic type would share two fields only.
 #[derive(Clone, Copy)]
 pub struct ValidVote {
     pub limits: Limits,

@@ -17,6 +17,7 @@ use super::valid::ValidVote;
 use values::Value;
 use wire::Kind;
 
+// Kept so: a vote has limits of its own; with a `HeardVotes` each call would have to show that both are the same.
 impl ValidVote {
     // Its slot.
     fn slot(self, votes: &[u64]) -> Slot<'_>
