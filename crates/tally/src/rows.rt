@@ -58,6 +58,7 @@ pub(crate) fn majority(row: &[[u64; 8]]) -> Value
 {
     let mut candidate = Value::zero();
     let mut lead: u64 = 0;
+    // Kept so: of `filter_map(heard)` the proof did not close: its lemma asks for an entry's `Option`, not its number.
     for entry in row {
         let Some(vote) = heard(entry) else {
             continue;
