@@ -20,11 +20,11 @@ PATTERNS = {
         ("an enum with one case that holds what was wanted", r"enum (Outcome|Answer|Said)\b"),
         ("a flag beside a value", r"^\s+(pub(\(crate\))? )?\w+: bool,$"),
         ("an error handed on by hand", r"=> return Err\(|Ok\((?P<same>\w+)\) => Ok\((?P=same)\)|None => Err\(|"
-         r"Err\(_\) => unreachable|None => unreachable"),
+         r"unreachable!?\(\)"),
     ],
     "3": [("a loop over numbers", r"\bfor \w+ in (?!0\.\.u64::MAX)[^{]*\.\.|\bwhile\b|\bloop\b")],
     "4": [
-        ("a trait by hand that has a derive", r"impl (PartialEq|Eq|PartialOrd|Ord|Clone|Hash|Default|fmt::Debug) for"),
+        ("a trait by hand", r"impl (PartialEq|Eq|PartialOrd|Ord|Clone|Hash|Default|fmt::Debug|(Try)?From<.*>) for"),
         ("a conversion by hand", r"fn (number|of|new|limbs)\((self|number: u64|limbs: \[u64; 4\]|a: u64, .*)\)"),
         ("text for a case by hand", r"fn (name_of|most_of|why|unread|too_long)\("),
         ("a struct copied field by field", r"let Member \{$"),
@@ -34,7 +34,7 @@ PATTERNS = {
         ("a slice with a count beside it", r"count: u64[,)]|let mut (bytes|buffer|out|tight) = \["),
         ("where a part begins and ends", r"\(usize, usize\)|start: usize, end: usize|^\s+start: usize,$"),
     ],
-    "7": [("a switch on a step, or a table of functions", r"if self\.step == 0|: fn\(|Box<dyn|&dyn ")],
+    "7": [("a switch on a step, or a table of functions", r"if self\.(member\.)?step == 0|: fn\(|Box<dyn|&dyn ")],
 }
 
 
@@ -56,7 +56,8 @@ def refused():
     """A None or an Err that is turned into another error by hand."""
     for path in SOURCES:
         text = "\n".join(code(path.read_text()))
-        for found in re.finditer(r"let (?:Some|Ok)\([^=]*\) = ([^;]*?) else \{\s*return (Err\([^;]*|None|Answer::Refused\([^;]*);", text):
+        handed = r"let (?:Some|Ok)\([^=]*\) = ([^;]*?) else \{\s*return (Err\([^;]*|None|Answer::Refused\([^;]*);"
+        for found in re.finditer(handed, text):
             number = text.count("\n", 0, found.start()) + 1
             yield "1", f"another error by hand: {path.relative_to(ROOT)}:{number}: {found[1].strip()[:60]}"
 
