@@ -26,7 +26,9 @@ module _ (l : Limits) (x : ℕ) (vs : List Vote) where
   pub any_period : (n : ℕ) → list_any quorum_after (range_with_len 0 n) ≡ certified_by l x n vs
   unfolding certified_by
   any_period zero = refl
-  any_period (suc n) = one_more 0 n ∙ ap (λ p. has_quorum l cert p 0 x vs || list_any quorum_after (range_with_len 0 n)) (omega arith)
+  any_period (suc n) =
+      one_more 0 n
+      ∙ ap (λ p. has_quorum l cert p 0 x vs || list_any quorum_after (range_with_len 0 n)) (omega arith)
       ∙ ap (λ b. has_quorum l cert (suc n) 0 x vs || b) (any_period n)
 
 -- a period in which a quorum is certain is one of those

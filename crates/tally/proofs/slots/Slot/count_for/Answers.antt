@@ -10,6 +10,6 @@ returns c =
     record {
       is = λ vs h.
           c.count_in.ensures.is
-          ∙ count-row (limits_of all s.heard.limits) s.heard.votes.now vs h _ s.period s.step _ c.row.result.now s.in_range
-          c.row.ensures.long c.row.ensures.entries;
+          ∙ count-row (limits_of all s.heard.limits) s.heard.votes.now vs h _ s.period s.step _ c.row.result.now
+          s.in_range c.row.ensures.long c.row.ensures.entries;
     }

@@ -13,7 +13,8 @@ overflow_sub-result c = let s = c.args.self in period_some (limits_of all s.hear
 
 -- there are few slots
 few : (s : Slot) →
-    (s.period - 1) * (2 * s.heard.limits.steps + 2) + slot_place (limits_of all s.heard.limits) (kind_number s.kind) s.step < 576
+    (s.period - 1) * (2 * s.heard.limits.steps + 2)
+    + slot_place (limits_of all s.heard.limits) (kind_number s.kind) s.step < 576
 few s =
     let most : s.heard.limits.periods * (2 * s.heard.limits.steps + 2) ≤ 32 * 18 =
     mul-le _ _ 32 18 s.heard.limits.few_periods (omega arith) in
@@ -35,4 +36,5 @@ overflow_mul-result-2 c =
 pub returns-clause-within : goal.returns-clause-within
 returns-clause-within c =
     let s = c.args.self in
-    rw c.place.ensures.is (row_within (limits_of all s.heard.limits) _ s.period s.step s.in_range s.heard.limits.some_member)
+    let some = s.heard.limits.some_member in
+    rw c.place.ensures.is (row_within (limits_of all s.heard.limits) _ s.period s.step s.in_range some)

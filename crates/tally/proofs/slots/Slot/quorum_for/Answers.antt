@@ -13,6 +13,6 @@ returns c =
       is = λ vs h.
           c.quorum_in.ensures.is
           ∙ ap (leb (quorum s.heard.limits.members))
-          (count-row (limits_of all s.heard.limits) s.heard.votes.now vs h _ s.period s.step _ c.row.result.now s.in_range
-          c.row.ensures.long c.row.ensures.entries);
+          (count-row (limits_of all s.heard.limits) s.heard.votes.now vs h _ s.period s.step _ c.row.result.now
+          s.in_range c.row.ensures.long c.row.ensures.entries);
     }
