@@ -13,7 +13,7 @@ use super::state::Network;
 use limits::Limits;
 
 // Opens each honest member, one after the other.
-// Kept so: of what a loop over `chunks_exact_mut` wrote, only the length is known after it.
+// Kept so: `chunks_exact_mut` tells only the length after it; that `filter(..).enumerate()` counts seats stayed open.
 fn open_all(memory: &mut [u64], limits: Limits, faulty: Members)
     requires room { room_for (limits_of all limits) (has faulty.bits) ≤ length memory.old }
     ensures is { AllNew (limits_of all limits) (has faulty.bits) memory.new }
