@@ -1,4 +1,4 @@
-use Rattle.std.proofs.Common.{ℕ, Bool, List, ◌++◌, length, take, drop, Ok, vec_items, vec_len, sym, refl, ◌∙◌}
+use Rattle.std.proofs.Common.{ℕ, Bool, List, ◌++◌, length, take, drop, Ok, vec_len, sym, refl, ◌∙◌}
 use Rattle.std.proofs.Common.{subst, arith}
 use Rattle.protocol.specs.Vote.{Limits}
 use Rattle.wire.specs.Meaning.{event_of}
