@@ -13,19 +13,15 @@ use super::state::Network;
 use limits::Limits;
 
 // Opens each honest member, one after the other.
-// Kept so: `chunks_exact_mut` tells only the length after it; that `filter(..).enumerate()` counts seats stayed open.
 fn open_all(memory: &mut [u64], limits: Limits, faulty: Members)
     requires room { room_for (limits_of all limits) (has faulty.bits) ≤ length memory.old }
     ensures is { AllNew (limits_of all limits) (has faulty.bits) memory.new }
 {
     let size = limits.memory() as usize;
-    let mut start: usize = 0;
-    for member in 0..limits.members {
-        if !faulty.has(member) {
-            let end = start + size;
-            open_in(memory, start..end, limits, member);
-            start = end;
-        }
+    let honest = (0..limits.members).filter(|member| !faulty.has(*member));
+    for (seat, member) in honest.enumerate() {
+        let start = seat * size;
+        open_in(memory, start..start + size, limits, member);
     }
 }
 

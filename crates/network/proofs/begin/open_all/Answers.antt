@@ -1,66 +1,71 @@
-use Rattle.std.proofs.Common.{ℕ, ◌+◌, Bool, List, length, sym, refl, ap, ◌∙◌, zero-mul, arith}
-use Rattle.protocol.specs.Vote.{Limits}
-use Rattle.protocol.specs.Network.{how_many}
-use Rattle.protocol.specs.Programs.{memory_size}
+use Rattle.std.proofs.Common.{ap, ◌+◌, ◌*◌, ◌≤◌, rules, tests, arith, ℕ, not, length}
+use Rattle.std.proofs.lemmas.Iterator.{YieldsList-from_range}
+use Rattle.std.proofs.lemmas.Iterator.Consumers.{YieldsList-from_filter, YieldsList-from_enumerate, YieldsList-turn}
+use Rattle.std.proofs.lemmas.Iterator.Consumers.{YieldsList-at, YieldsList-end}
 use Rattle.protocol.specs.Promises.{all}
 use Rattle.limits.specs.Limits.{limits_of}
 use Rattle.network.specs.Members.{has}
-use Rattle.network.proofs.Apart.{room_left}
-use Rattle.network.proofs.Opening.{start_more, start_same, new_more, new_same}
+use Rattle.network.proofs.Opening.{SitsAt, sits_at, room_at, new_seat, new_all}
 use Rattle.network.proofs.begin.open_all.Goals as goal
-use Rattle.network.proofs.begin.open_all.Goals.{then-not-has, else-not-has}
+use Rattle.network.proofs.begin.open_all.Goals.{In-Some}
 
-pub loop-member-init : goal.loop-member-init
-unfolding how_many
-loop-member-init c = (
-  sym (zero-mul (memory_size (limits_of all c.args.limits))),
-  (λ i low _. absurd (omega arith), refl),
-)
+-- what the chain yields is the next seat, and who sits there
+sits : (c : In-Some) →
+    SitsAt (has c.args.faulty.bits) c.args.limits.members (length c.loop-seat.yielded)
+    (c.in-Some.seat, c.in-Some.member)
+sits c =
+    sits_at (has c.args.faulty.bits) c.args.limits.members (length c.loop-seat.yielded) _
+    (YieldsList-turn {s = c.into_iter-seat-iterator.result}
+    (YieldsList-at c.into_iter-seat-iterator.ensures.into_iter_gives
+    (YieldsList-from_enumerate {s = c.enumerate-seat-items.result} (YieldsList-at c.enumerate-seat-items.ensures.source
+    (YieldsList-from_filter _ (λ i. not (has c.args.faulty.bits i))
+    (YieldsList-from_range 0 c.args.limits.members c.args.limits.members (cc) (omega arith))
+    c.filter-honest.ensures.closure (λ x r q k. search (rules, tests)))) c.enumerate-seat-items.ensures.count))
+    c.loop-seat.yielded c.loop-seat.seat-iterator c.loop-seat.yielded_by _ _ _ c.in-Some.is c.next.ensures.steps)
 
-pub overflow_add-end : goal.overflow_add-end
-overflow_add-end c =
-    omega (
-      arith,
-      room_left (limits_of all c.args.limits) (has c.args.faulty.bits) c.loop-member.member
-          (length c.loop-member.memory) (length c.args.memory.now) _ _ c.loop-member.invariant.0
-          c.memory-size.ensures.is
-          (sym c.has.ensures.is ∙ c.if-not-has.true) c.loop-member-test.true c.requires.room
-          c.loop-member.invariant.1.1,
-    )
+-- it has room
+room : (c : In-Some) → c.in-Some.seat * c.memory-size.result + c.memory-size.result ≤ length c.loop-seat.memory
+room c =
+    room_at (limits_of all c.args.limits) (has c.args.faulty.bits) (length c.loop-seat.yielded) c.memory-size.result
+    (length c.loop-seat.memory) (length c.args.memory.now) (c.in-Some.seat, c.in-Some.member) (sits c)
+    c.memory-size.ensures.is c.requires.room c.loop-seat.invariant.1.1
+
+pub overflow_mul-start : goal.overflow_mul-start
+overflow_mul-start c = omega (arith, room (goal.at.overflow_mul-start c).In-Some)
+
+pub overflow_add-start : goal.overflow_add-start
+overflow_add-start c = omega (arith, room (goal.at.overflow_add-start c).In-Some)
 
 pub open_in-requires-clause-within : goal.open_in-requires-clause-within
-open_in-requires-clause-within c =
-    room_left (limits_of all c.args.limits) (has c.args.faulty.bits) c.loop-member.member
-    (length c.loop-member.memory) (length c.args.memory.now) _ _ c.loop-member.invariant.0
-    c.memory-size.ensures.is
-    (sym c.has.ensures.is ∙ c.if-not-has.true) c.loop-member-test.true c.requires.room
-    c.loop-member.invariant.1.1
+open_in-requires-clause-within c = room (goal.at.open_in-requires-clause-within c).In-Some
 
-pub loop-member-preserved : goal.loop-member-preserved
-loop-member-preserved c =
-    let l : Limits = limits_of all c.args.limits in
-    let faulty : ℕ → Bool = has c.args.faulty.bits in
-    let n : ℕ = c.loop-member.member in
-    let mem : List ℕ = c.loop-member.memory in
-    elim c.if-not-has.branch [
-      | then-not-has w ↦
-          let good = sym c.has.ensures.is ∙ w.if-not-has.true in (
-            w.start-is ∙ ap (λ (k : ℕ). c.loop-member.start + k) c.memory-size.ensures.is
-                ∙ ap (λ (k : ℕ). k + memory_size l) c.loop-member.invariant.0 ∙ start_more l faulty n good,
-            (
-              rw w.memory-is (new_more l faulty n mem c.loop-member.invariant.1.0
-                  w.open_in.new.memory _ _ good c.loop-member.invariant.0
-                  (ap (λ (k : ℕ). c.loop-member.start + k) c.memory-size.ensures.is) w.open_in.ensures.is
-                  w.open_in.ensures.only),
-              rw w.memory-is (omega (arith, c.loop-member.invariant.1.1)),
-            ),
-          )
-      | else-not-has w ↦
-          let bad = sym c.has.ensures.is ∙ w.if-not-has.false in (
-            w.start-is ∙ c.loop-member.invariant.0 ∙ start_same l faulty n bad,
-            (
-              rw w.memory-is (new_same l faulty n mem c.loop-member.invariant.1.0 bad),
-              rw w.memory-is c.loop-member.invariant.1.1,
-            ),
-          )
-    ]
+pub open_in-requires-clause-me : goal.open_in-requires-clause-me
+open_in-requires-clause-me c = (sits (goal.at.open_in-requires-clause-me c).In-Some).1.0
+
+pub loop-seat-preserved : goal.loop-seat-preserved
+loop-seat-preserved c = (
+  search (rules, tests),
+  (
+    new_seat (limits_of all c.args.limits) (has c.args.faulty.bits) c.loop-seat.yielded
+        (c.in-Some.seat, c.in-Some.member) c.loop-seat.memory c.open_in.new.memory _ c.memory-size.result
+        (sits (goal.at.loop-seat-preserved c).In-Some) c.loop-seat.invariant.1.0 c.memory-size.ensures.is
+        (ap (λ (k : ℕ). c.in-Some.seat * c.memory-size.result + k) c.memory-size.ensures.is)
+        c.open_in.ensures.is c.open_in.ensures.only,
+    omega (arith, c.loop-seat.invariant.1.1),
+  ),
+)
+
+pub returns : goal.returns
+returns c =
+    let all-of =
+    YieldsList-end {s = c.into_iter-seat-iterator.result}
+    (YieldsList-at c.into_iter-seat-iterator.ensures.into_iter_gives
+    (YieldsList-from_enumerate {s = c.enumerate-seat-items.result} (YieldsList-at c.enumerate-seat-items.ensures.source
+    (YieldsList-from_filter _ (λ i. not (has c.args.faulty.bits i))
+    (YieldsList-from_range 0 c.args.limits.members c.args.limits.members (cc) (omega arith))
+    c.filter-honest.ensures.closure (λ x r q k. search (rules, tests)))) c.enumerate-seat-items.ensures.count))
+    c.loop-seat.yielded c.loop-seat.seat-iterator c.loop-seat.yielded_by _ _ c.in-None.is c.next.ensures.steps in
+    record {
+      is = new_all (limits_of all c.args.limits) (has c.args.faulty.bits) (length c.loop-seat.yielded)
+          c.loop-seat.memory c.loop-seat.invariant.1.0 all-of.1;
+    }

@@ -3,7 +3,7 @@ use Rattle.protocol.specs.Promises.{all}
 use Rattle.protocol.specs.Vote.{Limits}
 use Rattle.limits.specs.Limits.{limits_of}
 use Rattle.network.specs.Members.{has}
-use Rattle.network.proofs.Apart.{others, room_is}
+use Rattle.network.proofs.Apart.{others, start_is}
 use Rattle.network.proofs.Running.{begins}
 use Rattle.network.proofs.Spans.{written-back}
 use Rattle.network.specs.Begins.{AllNew}
@@ -31,7 +31,7 @@ returns-then-len-needed c = record {
           c.args.limits.members,
     ),
     (
-      room_is (limits_of all c.args.limits) (has c.args.faulty.bits) _ _
+      start_is (limits_of all c.args.limits) (has c.args.faulty.bits) c.args.limits.members _ _
           c.others_below-honest.ensures.is c.memory.ensures.is,
       omega (arith, c.if-len-needed.true, c.len.ensures),
     ),
@@ -42,7 +42,7 @@ pub invariant_of-result : goal.invariant_of-result
 invariant_of-result c =
     let l : Limits = limits_of all c.args.limits in
     let faulty : ℕ → Bool = has c.args.faulty.bits in
-    let room = room_is l faulty _ _ c.others_below-honest.ensures.is c.memory.ensures.is in
+    let room = start_is l faulty l.members _ _ c.others_below-honest.ensures.is c.memory.ensures.is in
     let honest = c.others_below-honest.ensures.is in
     let n : ℕ = vec_len c.args.memory in
     let new : List ℕ = c.open_all.new.memory in
