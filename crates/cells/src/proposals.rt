@@ -44,6 +44,7 @@ pub fn proposed_for(proposals: &[u64], limits: Limits, period: u64) -> Option<Va
 }
 
 // Keeps a proposal if there is none for its period, or one of a greater rank.
+// Kept so: of what is written through `as_chunks_mut` only the length is known after it; `only` says the places.
 pub fn keep(proposals: &mut [u64], proposal: ValidProposal)
     requires proposals { length proposals.old ≡ proposals_size (proposal_limits proposal) }
     ensures is { (os : Proposals) → Proposes (proposal_limits proposal) proposals.old os →

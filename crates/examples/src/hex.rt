@@ -13,6 +13,7 @@ fn nibble(digit: u8) -> u8
 }
 
 // Fills the bytes with what the digits write, two to a byte, and gives how many were filled.
+// Kept so: what is tested reads and writes lent bytes and gives their number, so the tests lend some too.
 pub(crate) fn unhex(digits: &[u8], out: &mut [u8]) -> usize
     ensures { result ≤ length out.new }
 {

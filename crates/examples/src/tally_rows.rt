@@ -1,4 +1,5 @@
 // Rows of members with just a quorum and with one vote less, and every slot of the largest limits.
+// Kept so: the tests write to the votes between looks, and `HeardVotes` only lends them to be read.
 ghost use Rattle.std.specs.Prelude.{◌≡◌, ◌<◌, ◌≤◌, length};
 ghost use Rattle.limits.specs.Limits.{limits_of};
 ghost use Rattle.protocol.specs.Promises.{all};

@@ -34,6 +34,7 @@ impl Member {
         ensures same { Same self result }
     {
         let limits = self.limits;
+        // Kept so: a vote's kind is a number, and only one kind is asked for here.
         if self.agreed.is_none()
             && vote.kind == u64::from(Kind::Cert)
             && is_quorum(memory, ValidVote { limits, vote })

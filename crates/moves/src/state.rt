@@ -4,7 +4,7 @@ ghost use Rattle.std.specs.Prelude.{◌+◌, ◌-◌, ◌<◌, ◌≤◌};
 use limits::Limits;
 use values::Value;
 
-// Kept so: memory may hold `start` and `free` as it likes, and `look` promises each; `certain` stands beside no value.
+// Kept so: a header may hold any `start` with any `free`, and `look` promises both; `certain` goes with no value.
 #[derive(Clone, Copy)]
 pub struct Member {
     pub limits: Limits,

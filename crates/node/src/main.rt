@@ -28,7 +28,7 @@ fn answer(rt: &HostRuntime, memory: &mut Vec<u64>, line: &[u8], at: u64) -> anyh
     let Some(event) = read_line(line) else {
         return refuse(rt, at);
     };
-    // Kept so: from a line to an event, to its bytes, to `call`, which is what everything is proved of.
+    // Kept so: the event goes by its bytes to `call`, which is what everything is proved of; none has more than 65.
     let mut bytes = [0; 65];
     let length = write_event(&mut bytes, event).unwrap();
     let answer = call(memory.as_mut_slice(), &bytes[..length])?;
@@ -60,7 +60,7 @@ fn read_one<R: BufRead>(input: &mut R, line: &mut Vec<u8>) -> io::Result<bool> {
 fn play(rt: &HostRuntime, memory: &mut Vec<u64>) -> anyhow::Result<()> {
     let mut input = BufReader::new(rt.alloc(), rt.stdin())?;
     let mut line = Vec::new(rt.alloc());
-    // Kept so: a count stands for `while`, since nothing says that the input ends.
+    // Kept so: a loop has to be known to end, and nothing says that the input does; the count is the line's number.
     for at in 0..u64::MAX {
         let more = read_one(&mut input, &mut line)?;
         if line.len() > LONGEST {

@@ -27,7 +27,7 @@ pub struct HeardVotes<'a> {
 
 impl HeardVotes<'_> {
     // The value that a quorum of soft votes of the period is for, if its block is among the first `count`.
-    // Kept so: adding needs the room behind the blocks that are here, so the part and their count come side by side.
+    // Kept so: `has_block` asks for the part and the count, since adding needs the room behind the blocks here.
     pub fn chosen(self, period: u64, blocks: &[u64], count: u64) -> Option<Value>
         requires blocks { 4 * count ≤ length blocks.now }
         ensures is { (vs : Votes) → Holds (limits_of all self.entry.limits) self.entry.votes.now vs →

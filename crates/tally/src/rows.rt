@@ -10,7 +10,7 @@ use limits::Limits;
 use values::Value;
 
 // What was heard at an entry.
-// Kept so: an entry of eight numbers is read as one, since rows are counted so; the header has five in a row.
+// Kept so: it reads an entry, as rows are counted; `option_at` of `member` reads five numbers of a longer slice.
 // Kept so: its first number says whether there is a value: lent memory is laid out so.
 pub(crate) fn heard(entry: &[u64; 8]) -> Option<Value>
     ensures is { listed result ≡ heard_at entry.now 0 }

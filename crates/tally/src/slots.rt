@@ -93,6 +93,7 @@ impl<'a> Slot<'a> {
 }
 
 // Writes what was heard at an entry.
+// Kept so: of what is written through `as_chunks_mut` only the length is known after it; `only` says the places.
 pub(crate) fn put_heard(votes: &mut [u64], at: u64, value: Value)
     requires within { 8 * at + 8 ≤ length votes.old }
     ensures is { heard_at votes.new at ≡ number_of value.limbs ∷ [] }
