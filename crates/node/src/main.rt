@@ -6,7 +6,8 @@ use anyhow::{Context, anyhow};
 use limits::Limits;
 use lines::{AnswerLines, read_line};
 use member::{OpenError, call, open};
-use std::io::{BufRead, BufReader, Read};
+use std::alloc::AllocError;
+use std::io::{BufRead, BufReader, ErrorKind, Lock, Read};
 use std::process::ExitCode;
 use std::{env, io};
 use text::number;
@@ -36,6 +37,21 @@ fn answer(rt: &HostRuntime, memory: &mut Vec<u64>, line: &[u8], at: u64) -> anyh
     Ok(())
 }
 
+// Passes over the rest of a line. Says whether more may follow: not where the input ended the line.
+fn skip_line<R: BufRead>(input: &mut R) -> io::Result<bool> {
+    // Kept so: a loop has to be known to end, and nothing says that a line does.
+    for _ in 0..u64::MAX {
+        let part = input.fill_buf()?;
+        let length = part.len();
+        let end = part.iter().position(|byte| *byte == b'\n');
+        input.consume(end.map_or(length, |at| at.saturating_add(1)));
+        if end.is_some() || length == 0 {
+            return Ok(end.is_some());
+        }
+    }
+    Ok(false)
+}
+
 // Reads the next line, without its line feed, or as much of it as shows that it is too long. Says whether more may
 // follow: not where the input ended the line.
 fn read_one<R: BufRead>(input: &mut R, line: &mut Vec<u8>) -> io::Result<bool> {
@@ -49,20 +65,25 @@ fn read_one<R: BufRead>(input: &mut R, line: &mut Vec<u8>) -> io::Result<bool> {
         return Ok(true);
     }
     if line.len() > LONGEST {
-        // whether the input ended it, only the next read shows
-        input.skip_until(b'\n')?;
-        return Ok(true);
+        return skip_line(input);
     }
     Ok(false)
 }
 
+// Want of memory while a line is read has the same words as elsewhere.
+fn reading(error: io::Error) -> anyhow::Error {
+    match (error.kind(), error.raw_os_error()) {
+        (ErrorKind::OutOfMemory, None) => AllocError.into(),
+        _ => error.into(),
+    }
+}
+
 // Answers each line of the input at once, up to its end. A last line without its line feed is a line too.
-fn play(rt: &HostRuntime, memory: &mut Vec<u64>) -> anyhow::Result<()> {
-    let mut input = BufReader::new(rt.alloc(), rt.stdin())?;
+fn play<R: BufRead>(rt: &HostRuntime, memory: &mut Vec<u64>, input: &mut R) -> anyhow::Result<()> {
     let mut line = Vec::new(rt.alloc());
     // Kept so: a loop has to be known to end, and nothing says that the input does; the count is the line's number.
     for at in 0..u64::MAX {
-        let more = read_one(&mut input, &mut line)?;
+        let more = read_one(input, &mut line).map_err(reading)?;
         if line.len() > LONGEST {
             refuse(rt, at)?;
         } else if more || !line.is_empty() {
@@ -118,7 +139,11 @@ fn run(rt: &HostRuntime) -> anyhow::Result<()> {
     let limits = Limits::new(members, periods, steps, blocks).map_err(OpenError::OutOfRange)?;
     let mut memory = vec![in rt.alloc(); 0; limits.memory() as usize]?;
     open(memory.as_mut_slice(), members, periods, steps, blocks, me)?;
-    play(rt, &mut memory)
+    match BufReader::new(rt.alloc(), rt.stdin()) {
+        Ok(mut input) => play(rt, &mut memory, &mut input),
+        // no memory for a buffer is no reason to end: a line may need less
+        Err(_) => play(rt, &mut memory, &mut rt.stdin().lock()),
+    }
 }
 
 // A refusal to start is one line on standard error, and status 1.

@@ -1,15 +1,24 @@
 // A file that is read whole, if it is not too long.
 use anyhow::anyhow;
+use std::alloc::AllocError;
 use std::fs::File;
 use std::io;
-use std::io::Read;
+use std::io::{ErrorKind, Read};
+
+// Want of memory while a file is read has the same words as elsewhere.
+fn reading(error: io::Error) -> anyhow::Error {
+    match (error.kind(), error.raw_os_error()) {
+        (ErrorKind::OutOfMemory, None) => AllocError.into(),
+        _ => error.into(),
+    }
+}
 
 // All bytes of a file up to one more than `most`, which shows that it is too long.
-fn read_some(rt: &HostRuntime, path: &str, most: u64) -> io::Result<Vec<u8>> {
+fn read_some(rt: &HostRuntime, path: &str, most: u64) -> anyhow::Result<Vec<u8>> {
     let mut text = Vec::new(rt.alloc());
-    File::open(rt, path)?
-        .take(most.saturating_add(1))
-        .read_to_end(&mut text)?;
+    let mut file = File::open(rt, path)?.take(most.saturating_add(1));
+    // by a buffer apart, so that a text that fills its memory needs no more to see that the file ends
+    io::copy(&mut file, &mut text).map_err(reading)?;
     Ok(text)
 }
 
