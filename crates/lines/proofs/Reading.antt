@@ -25,6 +25,12 @@ module _ {a b : List ℕ} {ws us vs : List (List ℕ)} where
   pub after_word : ws ≡ a ∷ us → ws ≡ b ∷ vs → us ≡ vs
   after_word p q = cc
 
+-- VALUE FROM are left after three words of a vote
+pub value-from : {a b c : List ℕ} {ws ws₁ ws₂ ws₃ : List (List ℕ)} (v : Vote) →
+    ws ≡ a ∷ ws₁ → ws₁ ≡ b ∷ ws₂ → ws₂ ≡ c ∷ ws₃ → ws ≡ vote_words v →
+    ws₃ ≡ spelled v.value ∷ (spelled v.from ∷ [])
+value-from v p q r e = cc
+
 -- KIND PERIOD STEP VALUE FROM fit their fields
 pub vote_fits : (v : Vote) → readable (got_vote v) ≡ true →
     (v.kind < 2 ^ 64) × (v.period < 2 ^ 64) × (v.step < 2 ^ 64) × (v.value < 2 ^ 256) × (v.from < 2 ^ 64)

@@ -3,7 +3,7 @@ ghost use Rattle.lines.specs.Reads.{Reads, ReadsVote, ReadsProposal};
 
 use crate::fields::{field, last_field};
 use decimals::Decimal;
-use text::{cut, is_word};
+use text::{cut, is_word, number};
 use wire::{Event, Proposal, Vote};
 
 // The vote that the words after `vote` say.
@@ -13,8 +13,9 @@ fn read_vote(fields: &[u8]) -> Option<Vote>
     let (kind, rest) = field(fields)?;
     let (period, rest) = field(rest)?;
     let (step, rest) = field(rest)?;
-    let (Decimal(value), rest) = field(rest)?;
-    let from = last_field(rest)?;
+    let (word, from) = cut(rest, b' ')?;
+    let Decimal(value) = number(word)?;
+    let from = last_field(from)?;
     Some(Vote {
         kind,
         period,

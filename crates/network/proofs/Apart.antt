@@ -2,24 +2,31 @@
 use Rattle.std.proofs.Common.{◌≡◌, ℕ, zero, suc, ◌+◌, ◌*◌, ◌<◌, ◌≤◌, Bool, true, false, cond, not, List, sym, refl, ap}
 use Rattle.std.proofs.Common.{[], ◌∷◌, length, add-one, map, length-append, ◌∙◌, inl, inr, le_trans, mul-le-mul_right}
 use Rattle.std.proofs.Common.{suc-mul, arith, get_or, subst, ◌++◌}
-use Rattle.std.specs.List.{filter, range_with_len}
+use Rattle.std.specs.List.{filter, range_with_len, sum_by}
+use Rattle.std.proofs.lemmas.Nat.{mul-le}
 use Rattle.std.proofs.lemmas.List.{map-id, get_or_append_left, get_or_at}
-use Rattle.std.proofs.lemmas.List.FromFn.{filter_of_map_range_with_len_more}
+use Rattle.std.proofs.lemmas.List.FromFn.{filter_of_map_range_with_len_more, sum_by-map-range_with_len_more}
 use Rattle.std.proofs.lemmas.Bool.{cases_order, cases_Bool}
 use Rattle.protocol.specs.Vote.{Limits}
 use Rattle.protocol.specs.Network.{how_many}
 use Rattle.protocol.specs.Programs.{memory_size}
+use Rattle.protocol.specs.Promises.{all}
+use Rattle.limits.specs.Limits.{limits_of}
+use Rattle.limits.specs.declared.bounds.Limits as code
 use Rattle.network.specs.Parts.{OnlyPart}
 use Rattle.network.specs.Seats.{seat, start_of, memory_of, room_for}
 use Rattle.network.proofs.Spans.{part_apart}
 
 -- one number more
-seat_more : (faulty : ℕ → Bool) (n : ℕ) → seat faulty (suc n) ≡ cond (not (faulty n)) 1 0 + seat faulty n
+pub seat_more : (faulty : ℕ → Bool) (n : ℕ) → seat faulty (suc n) ≡ cond (not (faulty n)) 1 0 + seat faulty n
 unfolding how_many
 seat_more faulty n = refl
 
-seat-honest : (faulty : ℕ → Bool) (n : ℕ) → faulty n ≡ false → seat faulty (suc n) ≡ suc (seat faulty n)
+pub seat-honest : (faulty : ℕ → Bool) (n : ℕ) → faulty n ≡ false → seat faulty (suc n) ≡ suc (seat faulty n)
 seat-honest faulty n h = seat_more faulty n ∙ ap (λ (b : Bool). cond (not b) 1 0 + seat faulty n) h ∙ omega arith
+
+pub seat_faulty : (faulty : ℕ → Bool) (n : ℕ) → faulty n ≡ true → seat faulty (suc n) ≡ seat faulty n
+seat_faulty faulty n h = seat_more faulty n ∙ ap (λ (b : Bool). cond (not b) 1 0 + seat faulty n) h ∙ omega arith
 
 -- a chain over the numbers below n counts those that pass
 one_more : (b : Bool) (n : ℕ) → length (cond b (n ∷ []) []) ≡ cond b 1 0
@@ -41,6 +48,25 @@ counted p (suc n) =
 
 pub how_many_pass : (p : ℕ → Bool) (n : ℕ) → length (filter p (range_with_len 0 n)) ≡ how_many n p
 how_many_pass p n = ap (λ (xs : List ℕ). length (filter p xs)) (sym (map-id (range_with_len 0 n))) ∙ counted p n
+
+-- a chain that adds 1 for each that passes
+pub how_many_sum : (p : ℕ → Bool) (n : ℕ) → sum_by (λ i. cond (p i) 1 0) (range_with_len 0 n) ≡ how_many n p
+unfolding how_many
+how_many_sum p zero = refl
+how_many_sum p (suc n) =
+    ap (λ (k : ℕ). sum_by (λ i. cond (p i) 1 0) (range_with_len 0 k)) (sym (add-one n))
+    ∙ ap (sum_by (λ i. cond (p i) 1 0)) (sym (map-id (range_with_len 0 (n + 1))))
+    ∙ sum_by-map-range_with_len_more (λ i. cond (p i) 1 0) (λ i. i) 0 n n (omega arith)
+    ∙ ap (λ (xs : List ℕ). sum_by (λ i. cond (p i) 1 0) xs + cond (p n) 1 0) (map-id (range_with_len 0 n))
+    ∙ omega (arith, how_many_sum p n)
+
+pub how_many_few : (p : ℕ → Bool) (n : ℕ) → how_many n p ≤ n
+unfolding how_many
+how_many_few p zero = omega arith
+how_many_few p (suc n) = elim (cases_Bool (p n)) [
+  | inl e ↦ rw e (omega (arith, how_many_few p n))
+  | inr e ↦ rw e (omega (arith, how_many_few p n))
+]
 
 -- the number at place k of those that pass: it passes, and k lower ones do
 abbrev pub Picked : (ℕ → Bool) → ℕ → ℕ → ℕ → Type 0
@@ -140,6 +166,19 @@ room_left l faulty i n was start size is-start is-size h low room same =
 pub start_is : (l : Limits) (faulty : ℕ → Bool) (i n size : ℕ) → n ≡ seat faulty i → size ≡ memory_size l →
     n * size ≡ start_of l faulty i
 start_is l faulty i n size is-n is-size = ap (λ (k : ℕ). k * size) is-n ∙ ap (λ (k : ℕ). seat faulty i * k) is-size
+
+-- so many numbers are few
+pub size_small : (k : code.Limits) → memory_size (limits_of all k) ≤ 296256
+size_small k =
+    let slots : 2 * k.steps + 2 ≤ 18 = omega (arith, k.few_steps) in
+    let periods : k.periods * (2 * k.steps + 2) ≤ 576 = mul-le _ _ 32 18 k.few_periods slots in
+    let members : k.members * (k.periods * (2 * k.steps + 2)) ≤ 36864 = mul-le _ _ 64 576 k.few_members
+    periods in
+    omega (arith, members, k.few_periods, k.few_blocks)
+
+pub span_fits : (k : code.Limits) (seat : ℕ) → seat ≤ 64 →
+    seat * memory_size (limits_of all k) + memory_size (limits_of all k) ≤ 19256640
+span_fits k seat h = omega (arith, mul-le seat (memory_size (limits_of all k)) 64 296256 h (size_small k), size_small k)
 
 -- a change of one honest member's memory leaves that of the others
 pub memory_apart : (l : Limits) (faulty : ℕ → Bool) (i j : ℕ) (xs ys : List ℕ) → faulty i ≡ false → faulty j ≡ false →

@@ -40,6 +40,6 @@ impl Members {
         ensures is { result ≡ seat (has self.bits) end }
         ensures few { result ≤ end }
     {
-        (0..end).filter(|member| !self.has(*member)).count() as u64
+        (0..end).map(|member| u64::from(!self.has(member))).sum()
     }
 }

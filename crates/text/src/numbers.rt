@@ -46,8 +46,8 @@ pub fn number<N: FromDigits>(word: &[u8]) -> Option<N>
     if word.is_empty() {
         return None;
     }
-    if word.len() > 1 && word[0] == b'0' {
-        return None;
+    if word[0] == b'0' {
+        return (word.len() == 1).then_some(N::zero());
     }
     let mut number = N::zero();
     for c in word {

@@ -1,4 +1,4 @@
-use Rattle.lines.proofs.Reading.{after_word, vote_fits}
+use Rattle.lines.proofs.Reading.{first_word, after_word, value-from, vote_fits}
 use Rattle.lines.proofs.events.read_vote.Goals as goal
 
 pub returns-in_err-kind : goal.returns-in_err-kind
@@ -31,10 +31,11 @@ returns-in_err-value c =
     let kind = c.in_ok-kind.ensures.is in
     let period = c.in_ok-period.ensures.is in
     let step = c.in_ok-step.ensures.is in
+    let word = c.in_ok-word.ensures.is in
     record {
       is = rw c.from_residual-in_err-value.ensures
-          (λ v fits e. c.in_err-value.ensures.is v.value _ _ (vote_fits v fits).3
-          (after_word step (after_word period (after_word kind e))));
+          (λ v fits e. c.in_err-value.ensures.is v.value (vote_fits v fits).3
+          (first_word word (value-from v kind period step e)));
     }
 
 pub returns-in_err-from : goal.returns-in_err-from
@@ -42,9 +43,9 @@ returns-in_err-from c =
     let kind = c.in_ok-kind.ensures.is in
     let period = c.in_ok-period.ensures.is in
     let step = c.in_ok-step.ensures.is in
-    let value = c.in_ok-value.ensures.is in
+    let word = c.in_ok-word.ensures.is in
     record {
       is = rw c.from_residual-in_err-from.ensures
           (λ v fits e. c.in_err-from.ensures.is v.from (vote_fits v fits).4
-          (after_word value (after_word step (after_word period (after_word kind e)))));
+          (after_word word (value-from v kind period step e)));
     }

@@ -1,5 +1,6 @@
-use Rattle.std.proofs.Common.{◌≡◌, ℕ, ◌+◌, ◌<◌, ◌≤◌, List, length, get_or, take, sym, ap, ◌∙◌, subst}
-use Rattle.std.proofs.Common.{arith}
+use Rattle.std.proofs.Common.{◌≡◌, ℕ, ◌+◌, ◌^◌, ◌<◌, ◌≤◌, List, length, get_or, take, refl, sym, ap, ◌∙◌, subst}
+use Rattle.std.proofs.Common.{Bool, true, false, eqb, decimal, MatchOption, ◌≢◌, arith}
+use Rattle.std.specs.Bool.{then_some}
 use Rattle.std.specs.Str.Parse.{AllDigits, digits_value}
 use Rattle.std.specs.Int.{IsInRange, IsOutOfRange}
 use Rattle.std.specs.Char.{digit_value}
@@ -8,11 +9,9 @@ use Rattle.std.proofs.lemmas.Str.{digit_value_digit}
 use Rattle.std.proofs.lemmas.Bool.{eqb-true, eqb-false}
 use Rattle.std.proofs.lemmas.List.{take_all}
 use Rattle.text.specs.Decimals.{spelled}
-use Rattle.text.proofs.Numerals.{not_empty, no_zero_before, only-digits}
+use Rattle.text.proofs.Numerals.{only_zero, not_empty, no_zero_before, only-digits}
 use Rattle.text.proofs.Spelled.{not_spelled, not_small, whole-spelled, front_le, spelled_decimal}
 use Rattle.text.proofs.numbers.number.Goals as goal
-use Rattle.text.proofs.numbers.number.Goals.{else-word-gt1-via-then-word-gt1+else-word-eq48}
-use Rattle.text.proofs.numbers.number.Goals.{else-word-gt1-via-else-word-gt1}
 
 pub returns-then-is_empty : goal.returns-then-is_empty
 returns-then-is_empty g c =
@@ -21,11 +20,26 @@ returns-then-is_empty g c =
     let none = λ (n : ℕ) (_ : n < g.N.FromDigits.end). not_spelled w (not_empty w empty) n in
     record { is = none; small = not_small w _ none }
 
+-- a word that begins with a zero spells a number where the zero is alone, and that is 0
+zero_first : {N : Type 0} (value : N → ℕ) (end : ℕ) (w : List ℕ) (z : N) (b : Bool) → b ≡ eqb (length w) 1 →
+    0 < length w → get_or w 0 0 ≡ 48 → value z ≡ 0 →
+    MatchOption (then_some b z) ((n : ℕ) → n < end → w ≢ spelled n) (λ x. w ≡ spelled (value x))
+    × (end ≤ 2 ^ 64 → MatchOption (then_some b z) ((n : ℕ) → n < end → w ≢ decimal n) (λ x. w ≡ decimal (value x)))
+unfolding spelled
+zero_first value end w z true one some lead zero =
+    let is : w ≡ spelled (value z) = only_zero w (eqb-true (length w) 1 (sym one)) lead ∙ ap spelled (sym zero) in
+    (is, λ few. is ∙ spelled_decimal (value z) (omega (arith, zero)))
+zero_first value end w z false one some lead zero =
+    let other = no_zero_before w (omega (arith, some, eqb-false (length w) 1 (sym one))) lead in
+    let none = λ (n : ℕ) (_ : n < end). not_spelled w other n in
+    (none, not_small w end none)
+
 pub returns-then-word-eq48 : goal.returns-then-word-eq48
 returns-then-word-eq48 g c =
     let w : List ℕ = c.args.word.now in
-    let none = λ (n : ℕ) (_ : n < g.N.FromDigits.end). not_spelled w (no_zero_before w (omega arith) (omega arith)) n in
-    record { is = none; small = not_small w _ none }
+    let zero = zero_first g.N.FromDigits.value g.N.FromDigits.end w c.zero.result (eqb (length w) 1) refl
+    (omega (arith, eqb-false (length w) 0 (sym c.if-is_empty.ensures))) (omega arith) c.zero.ensures.is in
+    record { is = rw c.then_some.ensures zero.0; small = rw c.then_some.ensures zero.1 }
 
 pub returns-then-not-is_ascii_digit : goal.returns-then-not-is_ascii_digit
 returns-then-not-is_ascii_digit g c =
@@ -77,10 +91,7 @@ returns g c =
     let whole : take c.loop-c.c-index w ≡ w = take_all c.loop-c.c-index w (omega arith) in
     let digits : AllDigits 10 w = subst (AllDigits 10) whole c.loop-c.invariant.digits in
     let lead : get_or w 0 0 ≡ 48 → length w ≤ 1 =
-    λ zero. elim c.else-word-gt1.branch [
-      | else-word-gt1-via-then-word-gt1+else-word-eq48 b ↦ absurd (b.if-word-eq48.false zero)
-      | else-word-gt1-via-else-word-gt1 b ↦ omega arith
-    ] in
+    λ zero. absurd (c.if-word-eq48.false zero) in
     let apart : (length w ≡ 0 → ⊥) = eqb-false (length w) 0 (sym c.if-is_empty.ensures) in
     let is : w ≡ spelled value =
     whole-spelled w digits (omega arith) lead ∙ ap spelled (sym (c.loop-c.invariant.is ∙ ap (digits_value 10) whole)) in
