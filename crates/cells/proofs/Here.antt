@@ -1,10 +1,11 @@
 -- The blocks that are here: whether one is found, and one more. Assumes nothing.
 use Rattle.std.proofs.Common.{◌≡◌, ◌==◌, ℕ, zero, suc, ◌+◌, ◌*◌, ◌<◌, ◌≤◌, ◌^◌, ◌||◌, false, List, [], ◌∷◌, length}
-use Rattle.std.proofs.Common.{true, eqb, get_or, take, sym, refl, ap, ◌∙◌, inl, add-one, arith, Fits, w64}
+use Rattle.std.proofs.Common.{true, eqb, get_or, take, sym, refl, ap, ◌∙◌, inl, ⊎_elim, add-one, arith, Fits, w64}
 use Rattle.std.specs.Simd.{first_chunks}
 use Rattle.std.specs.List.{list_any}
 use Rattle.std.specs.Cmp.Lexicographic.{pointwise}
 use Rattle.std.proofs.Math.Bool.{or_comm}
+use Rattle.std.proofs.lemmas.Bool.{or_left, or_right, or_from, eq-eqb, ne_eqb, cases_eq}
 use Rattle.std.proofs.lemmas.Bool.Decides.{Decides-eqb, Decides-like}
 use Rattle.std.proofs.lemmas.List.Folds.{list_any_more}
 use Rattle.std.proofs.lemmas.Slice.Eq.{slice_eq-Decides}
@@ -61,6 +62,22 @@ module _ (part : List ℕ) (k : ℕ) (v : Value) (long : 4 * k ≤ length part)
       (omega (arith, length-first_chunks 4 k part))
       ∙ (λ i. any_here n (omega arith) i || same_chunk n (omega arith) i)
       ∙ or_comm (is_in (number_of v.limbs) (blocks_in part n)) (number_of v.limbs == value_at part (4 * n))
+
+-- the n-th is the value
+pub here : (part : List ℕ) (x n count : ℕ) → n < count → value_at part (4 * n) ≡ x →
+    is_in x (blocks_in part count) ≡ true
+unfolding is_in blocks_in
+here part x n zero h e = absurd (omega (arith, h))
+here part x n (suc m) h e =
+    ⊎_elim (λ same. or_left _ _ (eq-eqb x _ (sym e ∙ ap (λ j. value_at part (4 * j)) same)))
+    (λ other. or_right _ _ (here part x n m (omega arith) e)) (cases_eq n m)
+
+-- the n-th is another
+pub not_here : (part : List ℕ) (x n : ℕ) → is_in x (blocks_in part n) ≡ false → (value_at part (4 * n) ≡ x → ⊥) →
+    is_in x (blocks_in part (n + 1)) ≡ false
+unfolding is_in blocks_in
+not_here part x n before other =
+    rw add-one (or_from _ _ (ne_eqb x _ (λ e. other (sym e))) before)
 
 -- blocks whose places did not change
 pub same_blocks : (part now : List ℕ) (n b : ℕ) → Only (4 * n) b part now → blocks_in now n ≡ blocks_in part n

@@ -1,16 +1,22 @@
 -- An answer, from the checks that passed and what was done.
 use Rattle.std.proofs.Common.{◌≡◌, ℕ, suc, ◌+◌, ◌-◌, ◌<◌, ◌≤◌, true, false, eqb, List, [], length, get_or, take, drop}
-use Rattle.std.proofs.Common.{sym, refl, ap, ◌∙◌, inr, arith, length-drop, get_or-drop, get_or-take}
+use Rattle.std.proofs.Common.{Some, None, Option, sym, refl, ap, ◌∙◌, inr, arith, length-drop, get_or-drop, get_or-take}
 use Rattle.std.proofs.lemmas.List.{same_lists, get_or_default}
 use Rattle.std.proofs.lemmas.Bool.{eq-eqb, ne_eqb, cond-true, cond-false, true≢false}
 use Rattle.protocol.specs.Vote.{Limits}
 use Rattle.protocol.specs.Member.{Member, Event, refused, says, is_some, is_event, event_number, in_range, last_refusal}
 use Rattle.protocol.specs.Member.{refusal, not_refused, place, does, answer, after}
-use Rattle.cells.specs.Cells.{Only}
+use Rattle.values.specs.declared.value.Value.{Value}
+use Rattle.wire.specs.Meaning.{agreed_of}
+use Rattle.cells.specs.Cells.{listed, Only}
 use Rattle.member.specs.Header.{option_at, Header}
 use Rattle.moves.specs.Parts.{of_header, of_votes, of_proposals, of_blocks, of_rest, votes_end, proposals_end}
 use Rattle.moves.specs.Parts.{blocks_end, part, OnlyIn}
 use Rattle.moves.specs.declared.state.Member as code
+
+pub agreed-listed : (o : Option Value) → agreed_of o ≡ listed o
+agreed-listed None = refl
+agreed-listed (Some v) = refl
 
 -- MEMORY
 
@@ -35,7 +41,7 @@ module _ (l : Limits) (a b : List ℕ) (only : Only 0 64 a b) (long : length b �
   only-header of_rest other = behind (blocks_end l) (omega arith)
 
 -- a value that may be missing is the same where its five numbers are
-option_same : (a b : List ℕ) (at : ℕ) → ((i : ℕ) → at ≤ i → i < at + 5 → get_or b i 0 ≡ get_or a i 0) →
+pub option_same : (a b : List ℕ) (at : ℕ) → ((i : ℕ) → at ≤ i → i < at + 5 → get_or b i 0 ≡ get_or a i 0) →
     option_at b at ≡ option_at a at
 option_same a b at same =
     rw (

@@ -1,12 +1,13 @@
 -- Limits that differ only in which events they take: while both take every event that there is, a member is the same.
 use Rattle.std.proofs.Common.{◌≡◌, ℕ, suc, ◌<◌, Bool, true, cond, not, ◌&&◌, eqb, List, [], ◌∷◌, refl, ap, ◌∙◌, arith}
+use Rattle.std.proofs.lemmas.Bool.{lt-ltb}
 use Rattle.protocol.specs.Vote.{Vote, Limits, has_quorum}
 use Rattle.protocol.specs.Member.{Member, Event, got_vote, got_proposal, got_block, timeout, unreadable, Outcome}
 use Rattle.protocol.specs.Member.{silent, with_vote, with_blocks, add_block, at_step, is_some, chosen_in, certified_in}
 use Rattle.protocol.specs.Member.{say, say_soft, soft_value, next_vote, on_timeout, onward, onward_all, say_cert}
 use Rattle.protocol.specs.Member.{certainly, agree_on, agree, settle, does, is_event, event_number, vote_in_range}
 use Rattle.protocol.specs.Member.{in_range, last_refusal, refusal, answer, after, refused, says, place, not_refused}
-use Rattle.protocol.specs.Promises.{all}
+use Rattle.protocol.specs.Promises.{thin, all, GoodLimits}
 use Rattle.protocol.specs.Programs.{member_after}
 use Rattle.safety.proofs.Chosen.{is-chosen, is-certified}
 
@@ -18,8 +19,17 @@ with_takes f l =
 abbrev pub AllTaken : (ℕ → Bool) → Type 0
 AllTaken f = (k : ℕ) → k < 4 → f k ≡ true
 
+pub thin_taken : AllTaken thin
+thin_taken k lt = lt-ltb k 4 lt
+
 pub all_taken : AllTaken all
 all_taken k lt = refl
+
+pub stage_taken : (can : ℕ → Bool) (l : Limits) → AllTaken can → GoodLimits can l → AllTaken l.takes
+stage_taken can l taken good k lt = good.stage k ∙ taken k lt
+
+pub with_own : (l : Limits) → with_takes l.takes l ≡ l
+with_own l = refl
 
 -- WHAT IT DOES
 

@@ -11,6 +11,6 @@ mod promises;
 
 pub use calls::{NotOpen, OpenError};
 pub use looks::{look, said};
-pub use moves::Member;
+pub use moves::{Member, WithTime};
 pub use opening::{call, open, take};
 pub use promises::{enough_memory_stands, refusal_keeps_stands, right_stands};

@@ -1,6 +1,6 @@
 -- What can be newly certified: `vs` are the votes heard before, of which nothing was certified, `ns` those heard now.
 use Rattle.std.proofs.Common.{◌≡◌, ℕ, ◌+◌, ◌-◌, ◌≤◌, Bool, true, false, cond, ◌⊎◌, List, [], ◌∷◌, ◌++◌, sym, refl, ◌∙◌}
-use Rattle.std.proofs.Common.{inl, inr, arith}
+use Rattle.std.proofs.Common.{inl, inr, zero-add, arith}
 use Rattle.std.proofs.lemmas.Bool.{both_ways, and_parts, and_from, or_cases, or_left, eqb-true, eq-eqb, leb-true}
 use Rattle.std.proofs.lemmas.Bool.{le-leb, cases_lt, cond-true, cond-false}
 use Rattle.protocol.specs.Vote.{cert, Vote, Limits, count, has_quorum}
@@ -30,6 +30,12 @@ quorum_among l k p s x ns vs h =
     let enough : _ = leb-true _ _ h in
     elim (cases_lt 0 (count k p s x ns))
     [ inl some ↦ inl (some_voter k p s x ns (omega arith)) | inr none ↦ inr (le-leb _ _ (omega arith)) ]
+
+-- so if none of the new is for it, it is as it was
+pub quorum_before : (l : Limits) (k p s x : ℕ) (ns vs : List Vote) → count k p s x ns ≡ 0 →
+    has_quorum l k p s x (ns ++ vs) ≡ has_quorum l k p s x vs
+unfolding has_quorum
+quorum_before l k p s x ns vs none = rw (count-append, none, zero-add)
 
 -- WHAT IS FOUND AMONG THE FIRST
 

@@ -14,7 +14,7 @@ module _ (mem ys : List ℕ) (s e : ℕ) (forward : s ≤ e) (within : e ≤ len
   abbrev new : List ℕ
   new = put_mid s (e - s) mem ys
 
-  put_here : (n m : ℕ) → s ≡ n → e ≡ m → between n m new ≡ ys
+  pub put_here : (n m : ℕ) → s ≡ n → e ≡ m → between n m new ≡ ys
   put_here n m h k =
       subst (λ (x : ℕ). between x m new ≡ ys) h
       (subst (λ (x : ℕ). between s x new ≡ ys) k (between-put_mid s (e - s) mem ys e (omega arith) sized))
@@ -32,21 +32,21 @@ module _ (mem ys : List ℕ) (s e : ℕ) (forward : s ≤ e) (within : e ≤ len
   put_after i j h = ap (take (j - i)) (put_rest i h)
 
   module _ (l : Limits) where
-    put_votes : s ≡ 64 → e ≡ votes_end l → OnlyIn of_votes l mem new
+    pub put_votes : s ≡ 64 → e ≡ votes_end l → OnlyIn of_votes l mem new
     put_votes h k of_header tt' = put_before 0 64 (omega arith)
     put_votes h k of_votes same = absurd (true≢false same)
     put_votes h k of_proposals tt' = put_after (votes_end l) (proposals_end l) (omega arith)
     put_votes h k of_blocks tt' = put_after (proposals_end l) (blocks_end l) (omega arith)
     put_votes h k of_rest tt' = put_rest (blocks_end l) (omega arith)
 
-    put_proposals : s ≡ votes_end l → e ≡ proposals_end l → OnlyIn of_proposals l mem new
+    pub put_proposals : s ≡ votes_end l → e ≡ proposals_end l → OnlyIn of_proposals l mem new
     put_proposals h k of_header tt' = put_before 0 64 (omega arith)
     put_proposals h k of_votes tt' = put_before 64 (votes_end l) (omega arith)
     put_proposals h k of_proposals same = absurd (true≢false same)
     put_proposals h k of_blocks tt' = put_after (proposals_end l) (blocks_end l) (omega arith)
     put_proposals h k of_rest tt' = put_rest (blocks_end l) (omega arith)
 
-    put_blocks : s ≡ proposals_end l → e ≡ blocks_end l → OnlyIn of_blocks l mem new
+    pub put_blocks : s ≡ proposals_end l → e ≡ blocks_end l → OnlyIn of_blocks l mem new
     put_blocks h k of_header tt' = put_before 0 64 (omega arith)
     put_blocks h k of_votes tt' = put_before 64 (votes_end l) (omega arith)
     put_blocks h k of_proposals tt' = put_before (votes_end l) (proposals_end l) (omega arith)

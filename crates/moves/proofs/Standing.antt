@@ -1,6 +1,7 @@
 -- A member that stands in its memory, after a change of one part.
 use Rattle.std.proofs.Common.{◌≡◌, ℕ, List, ◌∷◌, sym, refl, ap, ◌∙◌, subst}
 use Rattle.protocol.specs.Promises.{all}
+use Rattle.protocol.specs.Vote as protocol
 use Rattle.protocol.specs.Vote.{Vote, Proposal}
 use Rattle.protocol.specs.Member.{Member, with_vote, with_proposals}
 use Rattle.limits.specs.Limits.{limits_of}
@@ -65,6 +66,10 @@ module _ (x y : code.Member) (same : Same x y) where
 
   pub same_only : (p : Part) (mem new : List ℕ) → OnlyIn p (lim y) mem new → OnlyIn p (lim x) mem new
   same_only p mem new h = subst (λ (l : Limits). OnlyIn p (limits_of all l) mem new) same.limits h
+
+-- one change after another of one part
+pub only_twice : (p : Part) (l : protocol.Limits) (a b c : List ℕ) → OnlyIn p l a b → OnlyIn p l b c → OnlyIn p l a c
+only_twice p l a b c f g q other = g q other ∙ f q other
 
 pub same_twice : (x y z : code.Member) → Same x y → Same y z → Same x z
 same_twice x y z f g = record { limits = g.limits ∙ f.limits; me = g.me ∙ f.me }

@@ -2,7 +2,7 @@
 use Rattle.std.proofs.Common.{◌≡◌, ℕ, ◌+◌, ◌*◌, ◌<◌, ◌≤◌, Bool, true, false, cond, List, length, Some, None, Ok, Err}
 use Rattle.std.proofs.Common.{Result}
 use Rattle.std.proofs.Common.{Option, not, get_or, [], ◌∷◌, ◌++◌, length-append, sym, refl, ap, ◌∙◌, subst, inl, inr}
-use Rattle.std.proofs.Common.{arith}
+use Rattle.std.proofs.Common.{suc-mul, add-one, arith}
 use Rattle.std.specs.List.{between, filter, range_with_len, enumerate_from}
 use Rattle.std.specs.Result.{IsOk}
 use Rattle.std.proofs.lemmas.Bool.{and_from, le-leb, cases_order}
@@ -18,7 +18,8 @@ use Rattle.member.specs.declared.calls.OpenError.{OpenError}
 use Rattle.member.specs.declared.calls.OpenError.TheVariants.{OutOfRange, NotMember, TooShort}
 use Rattle.network.specs.Parts.{OnlyPart}
 use Rattle.network.specs.Seats.{seat, start_of, memory_of, room_for}
-use Rattle.network.proofs.Apart.{seat_behind, memory_apart, how_many_pass, start_is, room_left, Picked, picked_at}
+use Rattle.network.proofs.Apart.{seat-honest, seat_faulty, seat_behind, memory_apart, how_many_pass, start_is, room_left}
+use Rattle.network.proofs.Apart.{Picked, picked_at}
 use Rattle.network.proofs.Delivering.{at_span, only-there}
 
 pub numbers_of : (k : Limits) → OfNumbers k.members k.periods k.steps k.blocks (limits_of all k)
@@ -39,7 +40,7 @@ in_range k =
     (is_within 8 k.steps k.some_step k.few_steps)
     (is_within 256 k.blocks k.some_block k.few_blocks)
 
-no_error : (k : Limits) (me : ℕ) (mem new : List ℕ) (e : OpenError) → me < k.members →
+pub no_error : (k : Limits) (me : ℕ) (mem new : List ℕ) (e : OpenError) → me < k.members →
     memory_size (limits_of all k) ≤ length mem →
     ByOpen k.members k.periods k.steps k.blocks me mem new (Err e) → ⊥
 no_error k me mem new (OutOfRange limit) low long h =
@@ -55,6 +56,18 @@ opens k me mem new (Ok x) low long h = refl
 opens k me mem new (Err e) low long h = absurd (no_error k me mem new e low long h)
 
 -- ONE MEMBER AFTER THE OTHER
+
+-- where the next one's memory begins
+pub start_more : (l : protocol.Limits) (faulty : ℕ → Bool) (n : ℕ) → faulty n ≡ false →
+    start_of l faulty n + memory_size l ≡ start_of l faulty (n + 1)
+start_more l faulty n good =
+    sym (ap (λ (i : ℕ). start_of l faulty i) (add-one n) ∙ ap (λ (s : ℕ). s * memory_size l) (seat-honest faulty n good)
+    ∙ suc-mul (seat faulty n) (memory_size l))
+
+pub start_same : (l : protocol.Limits) (faulty : ℕ → Bool) (n : ℕ) → faulty n ≡ true →
+    start_of l faulty n ≡ start_of l faulty (n + 1)
+start_same l faulty n bad =
+    sym (ap (λ (i : ℕ). start_of l faulty i) (add-one n) ∙ ap (λ (s : ℕ). s * memory_size l) (seat_faulty faulty n bad))
 
 -- what a loop over the honest members below n yields at turn k: that seat, and who sits there
 abbrev pub SitsAt : (ℕ → Bool) → ℕ → ℕ → ℕ × ℕ → Type 0

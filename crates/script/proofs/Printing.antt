@@ -22,7 +22,7 @@ delivery_is i (got_block x) is = refl
 delivery_is i timeout is = refl
 delivery_is i (unreadable n) is = absurd (false≢true is)
 
-played_shown : (i : ℕ) (e : Event) (after : List ℕ) → i < 2 ^ 64 → is_event e ≡ true →
+pub played_shown : (i : ℕ) (e : Event) (after : List ℕ) → i < 2 ^ 64 → is_event e ≡ true →
     decimal i ++ (32 ∷ (event_text e ++ after)) ≡ delivery_text i e ++ after
 played_shown i e after small is =
     ap (λ (x : List ℕ). x ++ (32 ∷ (event_text e ++ after))) (shown_number i small)

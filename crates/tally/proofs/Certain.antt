@@ -1,7 +1,8 @@
 -- In which period a quorum is certain of a value.
-use Rattle.std.proofs.Common.{◌≡◌, ℕ, zero, suc, ◌+◌, ◌<◌, Bool, true, false, ◌||◌, List, refl, ap, ◌∙◌, ⊎_elim, arith}
+use Rattle.std.proofs.Common.{◌≡◌, ℕ, zero, suc, ◌+◌, ◌<◌, Bool, true, false, ◌||◌, List, sym, refl, ap, ◌∙◌, ⊎_elim}
+use Rattle.std.proofs.Common.{add-one, arith}
 use Rattle.std.specs.List.{list_any, range_with_len}
-use Rattle.std.proofs.lemmas.Bool.{both_ways, or_left, or_right, or_cases, cases_eq}
+use Rattle.std.proofs.lemmas.Bool.{both_ways, or_left, or_right, or_cases, or_from, cases_eq}
 use Rattle.protocol.specs.Vote.{cert, Vote, Limits, has_quorum}
 use Rattle.tally.specs.Votes.{certified_by}
 
@@ -30,6 +31,20 @@ module _ (l : Limits) (x : ℕ) (vs : List Vote) where
       one_more 0 n
       ∙ ap (λ p. has_quorum l cert p 0 x vs || list_any quorum_after (range_with_len 0 n)) (omega arith)
       ∙ ap (λ b. has_quorum l cert (suc n) 0 x vs || b) (any_period n)
+
+-- in none of them, and in one more
+module _ (l : Limits) (x : ℕ) where
+  pub by_none : (vs : List Vote) → certified_by l x 0 vs ≡ false
+  unfolding certified_by
+  by_none vs = refl
+
+  pub by_more : (n : ℕ) (vs : List Vote) → has_quorum l cert (n + 1) 0 x vs ≡ false → certified_by l x n vs ≡ false →
+      certified_by l x (n + 1) vs ≡ false
+  unfolding certified_by
+  by_more n vs not_here before =
+      let here : has_quorum l cert (suc n) 0 x vs ≡ false =
+      ap (λ p. has_quorum l cert p 0 x vs) (sym (add-one n)) ∙ not_here in
+      ap (λ m. certified_by l x m vs) (add-one n) ∙ or_from _ _ here before
 
 -- a period in which a quorum is certain is one of those
 pub by_here : (l : Limits) (x m n : ℕ) (vs : List Vote) → m < n → has_quorum l cert (m + 1) 0 x vs ≡ true →

@@ -1,5 +1,5 @@
 -- Counting a row of entries is counting the votes. Assumes nothing.
-use Rattle.std.proofs.Common.{◌≡◌, ℕ, zero, suc, ◌+◌, ◌<◌, Bool, true, false, cond, not, ◌&&◌, eqb, List, []}
+use Rattle.std.proofs.Common.{◌≡◌, ℕ, zero, suc, ◌+◌, ◌<◌, ◌≤◌, Bool, true, false, cond, not, ◌&&◌, eqb, List, []}
 use Rattle.std.proofs.Common.{◌∷◌, sym, refl, ap, ◌∙◌, ⊎_elim, zero-add, arith}
 use Rattle.std.proofs.lemmas.Bool.{and_parts, eqb-true, eq-eqb, ne_eqb, not-true, cases_Bool, cases_eq, cond-true}
 use Rattle.std.proofs.lemmas.Bool.{cond-false}
@@ -14,7 +14,7 @@ use Rattle.tally.specs.Votes.{heard_at, is_only, voted, all_in_range, Holds}
 use Rattle.tally.specs.Rows.{number_for}
 use Rattle.tally.proofs.Heard.{taken_voted, none_some}
 use Rattle.tally.proofs.Entries.{bit, number_first}
-use Rattle.std.proofs.Common.{length, get_or}
+use Rattle.std.proofs.Common.{length, get_or, take}
 
 pub how_many_same : (n : ℕ) (f g : ℕ → Bool) → ((i : ℕ) → i < n → g i ≡ f i) → how_many n g ≡ how_many n f
 unfolding how_many
@@ -44,6 +44,24 @@ how_many_put (suc n) f g j low off same = ⊎_elim last (before (λ below. how_m
         let rest = fewer below in
         let here : bit (g n) ≡ bit (f n) = ap bit (same n (λ e. other (sym e))) in
         omega (arith, rest, here)
+
+pub how_many_grows : (m n : ℕ) (f : ℕ → Bool) → m ≤ n → how_many m f ≤ how_many n f
+unfolding how_many
+how_many_grows m zero f h = let e : m ≡ 0 = omega arith in rw e (omega arith)
+how_many_grows m (suc n) f h =
+    ⊎_elim (λ e. rw e (omega arith)) (λ ne. let rest = how_many_grows m n f (omega arith) in omega arith)
+    (cases_eq m (suc n))
+
+-- more entries of a row are for a value, or as many
+pub row_grows : (row : List (List ℕ)) (m n x : ℕ) → m ≤ n → n ≤ length row →
+    number_for x (take m row) ≤ number_for x (take n row)
+row_grows row m n x h few =
+    omega (
+      arith,
+      number_first x m row (omega arith),
+      number_first x n row few,
+      how_many_grows m n (λ i. is_only x (heard_at (get_or row i []) 0)) h,
+    )
 
 -- the count of votes, member by member
 pub count-members : (l : Limits) (k p s x : ℕ) (vs : List Vote) → all_different vs ≡ true → all_in_range l vs ≡ true →

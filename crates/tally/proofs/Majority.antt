@@ -13,6 +13,9 @@ pub record Leads (row : List (List ℕ)) (n candidate lead : ℕ) : Type 0 where
   pub others : (x : ℕ) → (x ≡ candidate → ⊥) → 2 * number_for x (take n row) + lead ≤ n
 
 module _ (row : List (List ℕ)) where
+  pub leads_none : (candidate : ℕ) → Leads row 0 candidate 0
+  leads_none candidate = record { low = omega arith; own = omega arith; others = λ x other. omega arith }
+
   module _ (n candidate lead : ℕ) (few : n < length row) (h : Leads row n candidate lead) where
     -- nothing heard
     pub leads_empty : [] ≡ heard_at (get_or row n []) 0 → Leads row (n + 1) candidate lead

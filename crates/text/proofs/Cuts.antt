@@ -44,6 +44,16 @@ module _ (sep : ℕ) where
   none_free [] h = refl
   none_free (c ∷ cs) h = and_from _ _ (plain c cs (length cs) h) (none_free cs (later c cs (length cs) h))
 
+  -- one byte more that is no separator
+  pub free_more : (i : ℕ) (cs : List ℕ) → free_of sep (take i cs) ≡ true → i < length cs → (get_or cs i 0 ≡ sep → ⊥) →
+      free_of sep (take (suc i) cs) ≡ true
+  free_more zero [] h within here = refl
+  free_more zero (c ∷ cs) h within here = and_from _ _ (not_from_false _ (ne_eqb c sep here)) refl
+  free_more (suc i) [] h within here = refl
+  free_more (suc i) (c ∷ cs) h within here =
+      let parts : (not (eqb c sep) ≡ true) × (free_of sep (take i cs) ≡ true) = and_parts _ _ h in
+      and_from _ _ parts.0 (free_more i cs parts.1 (le_of_suc-le-suc within) here)
+
   -- there is always a piece, so what follows a separator makes at least two
   some_piece : (cs : List ℕ) → pieces sep cs ≡ [] → ◌≡◌ {A = ℕ} 0 1
   some_piece [] e = cc

@@ -1,7 +1,8 @@
 -- The answer in bytes, by their first, and by how many votes it says. Assumes nothing.
-use Rattle.std.proofs.Common.{◌≡◌, ℕ, ◌+◌, ◌*◌, true, false, eqb, leb, List, length, get_or, Ok, Err}
-use Rattle.std.proofs.Common.{Result, sym, ap, ◌∙◌}
+use Rattle.std.proofs.Common.{◌≡◌, ℕ, ◌+◌, ◌*◌, ◌<◌, true, false, eqb, leb, List, length, get_or, Ok, Err}
+use Rattle.std.proofs.Common.{Result, sym, ap, ◌∙◌, arith}
 use Rattle.std.proofs.lemmas.Bool.{cond-true, cond-false}
+use Rattle.std.proofs.lemmas.Bool.Decides.{nat_tests}
 use Rattle.values.specs.Digits.{le_number}
 use Rattle.protocol.specs.Vote.{Vote}
 use Rattle.protocol.specs.Member.{Answer}
@@ -23,3 +24,7 @@ says_at bs n vs r u few is long votes read =
 pub answer_at : (bs : List ℕ) (t : ℕ) → eqb (length bs) 0 ≡ false → get_or bs 0 0 ≡ t → answer_in bs ≡ answer_by t bs
 unfolding answer_in
 answer_at bs t some first = cond-false _ _ _ some ∙ ap (λ n. answer_by n bs) first
+
+-- another first byte
+pub answer-rest : (bs : List ℕ) (t : ℕ) → 1 < t → answer_by t bs ≡ Err 0
+answer-rest bs t more = grind (arith, nat_tests)

@@ -9,7 +9,8 @@ use Rattle.values.specs.declared.value.Value.{Value}
 use Rattle.values.specs.Digits.{le_bytes}
 use Rattle.values.proofs.Digits.{length_digits}
 use Rattle.protocol.specs.Vote.{Vote, word_bound}
-use Rattle.protocol.specs.Member.{Answer, refused, says}
+use Rattle.protocol.specs.Member.{Answer, refused, says, got_vote}
+use Rattle.protocol.specs.Programs.{readable}
 use Rattle.wire.specs.declared.answers.Refusal.{Refusal}
 use Rattle.wire.specs.declared.answers.Refusal.TheVariants.{NoEvent, OutOfRange, AgreedBefore, VotedBefore, NoMoreTime}
 use Rattle.wire.specs.declared.answers.Refusal.TheVariants.{NoMoreBlocks}
@@ -141,3 +142,13 @@ pub held_says_fits : (s : Said) (o : Option Value) → votes_fit (said_of s) ≡
     sayable (says (said_of s) (agreed_of o)) ≡ true
 unfolding sayable
 held_says_fits s o fit = and_from _ _ (few-said s) (and_from _ _ fit (held-agreed_fits o))
+
+pub one_fits : (s : Said) (v : Vote) → said_of s ≡ v ∷ [] → readable (got_vote v) ≡ true → votes_fit (said_of s) ≡ true
+unfolding votes_fit
+one_fits s v is fit = ap votes_fit is ∙ and_from _ _ fit refl
+
+pub two_fit : (s : Said) (v w : Vote) → said_of s ≡ v ∷ w ∷ [] → readable (got_vote v) ≡ true →
+    readable (got_vote w) ≡ true →
+    votes_fit (said_of s) ≡ true
+unfolding votes_fit
+two_fit s v w is fit fit' = ap votes_fit is ∙ and_from _ _ fit (and_from _ _ fit' refl)

@@ -2,6 +2,7 @@
 use Rattle.std.proofs.Common.{◌≡◌, ℕ, ◌^◌, ◌<◌, true, false, eqb, List, length, get_or}
 use Rattle.std.proofs.Common.{ap, ◌∙◌, arith}
 use Rattle.std.proofs.lemmas.Bool.{cond-false, cond_both, eqb-true, eqb-false}
+use Rattle.std.proofs.lemmas.Bool.Decides.{nat_tests}
 use Rattle.values.specs.Digits.{under, le_number}
 use Rattle.protocol.specs.Member.{Event, got_vote, got_proposal, got_block, timeout, unreadable}
 use Rattle.protocol.specs.Programs.{readable}
@@ -20,6 +21,10 @@ module _ (bs : List ℕ) where
   pub event_at : (t : ℕ) → eqb (length bs) 0 ≡ false → get_or bs 0 0 ≡ t → event_in bs ≡ event_by t bs
   unfolding event_in
   event_at t some is = cond-false _ _ _ some ∙ ap (λ n. event_by n bs) is
+
+  -- another first byte
+  pub event-rest : (t : ℕ) → 3 < t → event_by t bs ≡ unreadable 0
+  event-rest t more = grind (arith, nat_tests)
 
   -- what holds of each way in which bytes are read
   pub event_cases : (P : Event → Type 0) →

@@ -7,6 +7,10 @@ use Rattle.wire.specs.Bytes.{sized, reaching}
 pub sized-is : {A : Type 0} (place : ℕ → A) (n : ℕ) (bs : List ℕ) (a : A) → length bs ≡ n → sized place n bs a ≡ a
 sized-is place n bs a e = grind (arith, nat_tests)
 
+pub sized_err : {A : Type 0} (place : ℕ → A) (n : ℕ) (bs : List ℕ) (a : A) (m : ℕ) →
+    ◌≡◌ {A = Result (Unit {0}) ℕ} (Err m) (sized Err n bs (Ok tt)) → place m ≡ sized place n bs a
+sized_err place n bs a m e = grind (arith, nat_tests)
+
 pub sized_cases : {A : Type 0} (P : A → Type 0) (place : ℕ → A) (n : ℕ) (bs : List ℕ) (a : A) →
     (length bs < n → P (place (length bs))) → (n < length bs → P (place n)) → (length bs ≡ n → P a) →
     P (sized place n bs a)
@@ -25,3 +29,7 @@ reaching_ok n bs u e = grind (arith, nat_tests)
 pub reaching_past : {A : Type 0} (place : ℕ → A) (n : ℕ) (bs : List ℕ) (a : A) (u : Unit {0}) →
     ◌≡◌ {A = Result (Unit {0}) ℕ} (Ok u) (reaching Err n bs (Ok tt)) → reaching place n bs a ≡ a
 reaching_past place n bs a u e = reaching-is place n bs a (reaching_ok n bs u e)
+
+pub reaching_err : {A : Type 0} (n : ℕ) (bs : List ℕ) (a : Result A ℕ) (m : ℕ) →
+    ◌≡◌ {A = Result (Unit {0}) ℕ} (Err m) (reaching Err n bs (Ok tt)) → Err m ≡ reaching Err n bs a
+reaching_err n bs a m e = grind (arith, nat_tests)
