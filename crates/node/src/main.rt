@@ -71,6 +71,7 @@ fn read_one<R: BufRead>(input: &mut R, line: &mut Vec<u8>) -> io::Result<bool> {
 }
 
 // Want of memory while a line is read has the same words as elsewhere.
+// Kept so: `replay` has these lines too; each program is on its own.
 fn reading(error: io::Error) -> anyhow::Error {
     match (error.kind(), error.raw_os_error()) {
         (ErrorKind::OutOfMemory, None) => AllocError.into(),

@@ -6,6 +6,7 @@ use std::io;
 use std::io::{ErrorKind, Read};
 
 // Want of memory while a file is read has the same words as elsewhere.
+// Kept so: `node` has these lines too; each program is on its own.
 fn reading(error: io::Error) -> anyhow::Error {
     match (error.kind(), error.raw_os_error()) {
         (ErrorKind::OutOfMemory, None) => AllocError.into(),
